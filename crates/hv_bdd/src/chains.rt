@@ -35,6 +35,8 @@ pub struct Chains {
     // For each slot, one more than the last place in it, or 0.
     heads: Vec<u32>,
     turn: NodeFactor,
+    // There will be no more nodes than so many. Only how many slots are made hangs on it.
+    most: usize,
     // What was read ahead. Only how long searches take hangs on it.
     ahead: u32,
 }
@@ -56,8 +58,8 @@ pub struct FoundNode {
 }
 
 impl Chains {
-    /// The chains of no node.
-    pub fn new(alloc: Global) -> Chains
+    /// The chains of no node, where there will be no more than so many.
+    pub fn new(alloc: Global, most: usize) -> Chains
         ensures { IsChained [] result }
     {
         Chains {
@@ -67,6 +69,7 @@ impl Chains {
                 factor: 0x9e37_79b9_7f4a_7c15,
                 long: LONG,
             },
+            most,
             ahead: 0,
         }
     }
@@ -131,7 +134,7 @@ impl Chains {
         ensures room { OnOk result (0 < length self.new.heads.items) }
     {
         if nodes.len() >= self.heads.len() {
-            let size = (nodes.len() * 2).max(16);
+            let size = slots_for(nodes.len(), self.most);
             self.heads = vec![in *self.heads.allocator(); 0; size]?;
             self.turn.long = LONG;
         } else if passed >= self.turn.long {
@@ -144,6 +147,15 @@ impl Chains {
         link_all(nodes, self.turn.factor, &mut self.before, &mut self.heads);
         Ok(())
     }
+}
+
+// How many slots are made once there are so many nodes: some for each, but no more than there will
+// be nodes.
+fn slots_for(nodes: usize, most: usize) -> usize
+    requires { nodes < 16777216 }
+    ensures { nodes < result }
+{
+    (nodes * 8).min(most).max(nodes + 1).max(16)
 }
 
 // Into which of so many slots a node falls.

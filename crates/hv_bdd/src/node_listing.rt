@@ -1,6 +1,6 @@
-//! Nodes that come one after another, and are tested in blocks of 64: what the tests of a block will
-//! read is read ahead, so that the look-ups of one node don't wait for those of another. Whatever
-//! ends the reading, the nodes that wait are tested first, so the first fault is the same.
+//! Nodes that come one after another, and are tested in blocks of 64: what the tests of a block
+//! will read is read ahead, so that the look-ups of one node don't wait for those of another.
+//! Whatever ends the reading, the nodes that wait are tested first, so the first fault is the same.
 //!
 //! The tests of a line are in the order of the kinds of fault, so a contract can say "the first
 //! fault" by one function of the list and the numbers. What comes of the lines that follow nodes
@@ -34,8 +34,8 @@ pub struct NodeListing {
 }
 
 impl NodeListing {
-    /// No node yet.
-    pub fn new(alloc: Global, list: Diagrams) -> NodeListing
+    /// No node yet, where there will be no more than so many.
+    pub fn new(alloc: Global, list: Diagrams, most: usize) -> NodeListing
         requires { list.nodes ≡ [] }
         ensures ready { IsListing result }
         ensures list { result.list ≡ list }
@@ -43,7 +43,7 @@ impl NodeListing {
     {
         NodeListing {
             list,
-            seen: Chains::new(alloc),
+            seen: Chains::new(alloc, most),
             waiting: Vec::new(alloc),
         }
     }

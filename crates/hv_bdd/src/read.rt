@@ -154,7 +154,7 @@ fn nodes<R: Source>(
         (R.position reader.old) (R.position reader.new) result }
     ensures atoms { IfOk result (λ read. read.atoms ≡ list.atoms) }
 {
-    let mut listing = NodeListing::new(alloc, list);
+    let mut listing = NodeListing::new(alloc, list, count as usize);
     for done in 0..count {
         let _ = done;
         match node(reader) {

@@ -513,8 +513,8 @@ impl Search<'_> {
         true
     }
 
-    // Whether a bit at a place rules out an operand that its node doesn't rule out: more is looked at
-    // only where it asks for the place.
+    // Whether a bit at a place rules out an operand that its node doesn't rule out: more is looked
+    // at only where it asks for the place.
     #[tactic(auto, using(crate::proofs::Moving::stays_put))]
     fn rules_out(&self, asked: &Asked, node: u32, marks: &PlaceMarks, bit: bool) -> bool
         requires askable { IsAskable self.now.setting asked.now.which }

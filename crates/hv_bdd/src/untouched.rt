@@ -29,8 +29,8 @@ pub(crate) struct Untouched {
     pub places: State,
     /// How many tuples each of them reaches, where it is known that no state suits the operands.
     pub count: Option<usize>,
-    /// So many more searches that reach few tuples make no sweep, since too many waited in one. Only
-    /// how long a query takes hangs on it.
+    /// So many more searches that reach few tuples make no sweep, since too many waited in one.
+    /// Only how long a query takes hangs on it.
     pub crowded: u32,
 }
 
