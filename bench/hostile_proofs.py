@@ -166,7 +166,7 @@ def falling_union(kind, negation=False):
 
 def negated_union(folder, percent):
     """A union that grows by negations, and a set that is within the first of them."""
-    count, lines = 20 * percent, Lines()
+    count, lines = 400 * percent, Lines()
     parts = [lines.set("h 1 -%d 0" % (n % 20 + 1)) for n in range(count)]
     left, union = lines.set("h 1 1 0"), lines.set("n %d", parts[0])
     for part in parts[1:]:

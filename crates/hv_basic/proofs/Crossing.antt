@@ -2,13 +2,13 @@
 -- that says of a query which asks about the formula before the action and after it.
 use Rattle.std.proofs.Common.{◌≡◌, ℕ, ◌≤◌, ◌∙◌, ◌⊎◌, ◌&&◌, ◌||◌, Bool, true, false, not, List, []}
 use Rattle.std.proofs.Common.{◌∷◌, ◌<◌, Option, None, Some, arith}
-use Rattle.std.proofs.Common.{cond, length, map, get_or, slice_get, refl, sym, ap, subst, inl, inr}
+use Rattle.std.proofs.Common.{length, map, get_or, slice_get, refl, sym, ap, subst, inl, inr}
 use Rattle.std.proofs.lemmas.Bool.{and_parts, cases_lt, false_from_ne_true}
 use Rattle.std.proofs.lemmas.List.Elements.{Contains-get_or}
 use Rattle.std.proofs.lemmas.List.Folds.{Any-from_list_any, list_any_at}
 use Rattle.std.proofs.lemmas.List.{get_or_default}
-use Rattle.std.proofs.lemmas.Option.{get_or_from_slice_get, same_Some, slice_get-map}
-use Rattle.std.proofs.lemmas.Option.{slice_get_within}
+use Rattle.std.proofs.lemmas.Option.{IfSome_then, get_or_from_slice_get, same_Some}
+use Rattle.std.proofs.lemmas.Option.{slice_get-map, slice_get_within}
 use Rattle.std.specs.Global.{Vec}
 use Rattle.std.specs.Option.{IfSome}
 use Rattle.std.specs.List.{Contains, list_all}
@@ -31,6 +31,7 @@ use Rattle.hv_basic.specs.ActionRows.{StandsInRow, changed_to, in_found_row}
 use Rattle.hv_basic.specs.declared.framed.Frame.{Frame}
 use Rattle.hv_basic.specs.Stores.{formula}
 use Rattle.hv_basic.specs.Working.Candidates.{HaveAllClashes}
+use Rattle.hv_basic.specs.Working.Excluded.{has_value}
 use Rattle.hv_basic.specs.Working.Framed.{AreCrossing, AreTurning, IsFramed, CanTurn, sign_to}
 
 -- an atom's flag after the action (s), by its flag before it (h), where the action adds the atom (a)
@@ -72,14 +73,11 @@ unnamed : (xs : List ℕ) (p : ℕ) → (Contains xs p → ⊥) → names_atom x
 unnamed xs p out =
     false_from_ne_true (names_atom xs p) (λ yes. out ((names_atom-Decides xs p).0 yes))
 
--- what a literal of this sign and atom says of a state
-abbrev pub says : Bool → List Bool → ℕ → Bool
-says positive state p = cond positive (has_atom state p) (not (has_atom state p))
-
+-- an atom that the action doesn't turn keeps its value
 pub flag_kept : (into positive : Bool) (action : Action) (state : List Bool) (p : ℕ)
     → (Contains (changed_to (sign_to into positive) action) p → ⊥)
-    → says positive (asked (Some action) into state) p ≡ true
-    → says positive (asked (Some action) (not into) state) p ≡ true
+    → has_value positive (asked (Some action) into state) p ≡ true
+    → has_value positive (asked (Some action) (not into) state) p ≡ true
 flag_kept false true action state p out held =
     elim (flag_next action state p) [
       | inl e ↦
@@ -166,6 +164,30 @@ not_true : (b : Bool) → not b ≡ true → b ≡ false
 not_true false e = refl
 not_true true e = absurd (cc (e))
 
+-- the clauses of a formula of the store are those of its line
+pub stored_clauses : (n : ℕ) (sets : List FormulaState) (xs : List (List (List Literal)))
+    → sets ≡ map (formula n) xs → (number : ℕ) (set : FormulaState)
+    → slice_get sets number ≡ Some set → set.clauses ≡ get_or xs number []
+stored_clauses n sets xs is number set at =
+    let found = got_mapped (formula n) (slice_get xs number) set
+    (sym (slice_get-map (formula n) xs number) ∙ (ap (λ ys. slice_get ys number) (sym is) ∙ at)) in
+    ap (λ (s : FormulaState). s.clauses) (sym found.2)
+    ∙ sym (get_or_from_slice_get xs number found.0 [] found.1)
+
+-- what was found of the clauses of a formula of the store, as it is said of those of its line
+pub turning_crossing : (task : Strips) (sets : List FormulaState) (number : ℕ) (set : FormulaState)
+    (clauses : List (List Literal)) (into : Bool) (found : Option (List ℕ))
+    → slice_get sets number ≡ Some set → clauses ≡ set.clauses
+    → IfSome found (AreTurning task clauses into)
+    → IfSome found (λ listed. (lists : List (List (List Literal)))
+    → sets ≡ map (formula (atoms task)) lists
+    → AreCrossing task (in_clauses (get_or lists number [])) into listed)
+turning_crossing task sets number set clauses into found at same turning =
+    IfSome_then found turning (λ listed turns lists is.
+    subst (λ cs. AreCrossing task (in_clauses cs) into listed)
+    (same ∙ stored_clauses (atoms task) sets lists is number set at)
+    (crossing_from task clauses into listed turns))
+
 -- what an operand that names a set says of a state at its time
 at_time : (task : Strips) (sets : ℕ → List Bool → Bool) (found : Option Action) (a : Action)
     (state : List Bool) (o : Operand) (number : ℕ) (after value : Bool) → found ≡ Some a
@@ -199,16 +221,6 @@ clashes_crossing task sets query number into listed framed are = record {
       (at_time task sets action a.0 state framed.0.0 number into true a.1 framed.0.2 framed.0.3 held)
       (at_time task sets action a.0 state framed.1.0 number (not into) false a.1 framed.1.2 framed.1.3 out);
 }
-
--- the clauses of a formula of the store are those of its line
-pub stored_clauses : (n : ℕ) (sets : List FormulaState) (xs : List (List (List Literal)))
-    → sets ≡ map (formula n) xs → (number : ℕ) (set : FormulaState)
-    → slice_get sets number ≡ Some set → set.clauses ≡ get_or xs number []
-stored_clauses n sets xs is number set at =
-    let found = got_mapped (formula n) (slice_get xs number) set
-    (sym (slice_get-map (formula n) xs number) ∙ (ap (λ ys. slice_get ys number) (sym is) ∙ at)) in
-    ap (λ (s : FormulaState). s.clauses) (sym found.2)
-    ∙ sym (get_or_from_slice_get xs number found.0 [] found.1)
 
 -- what was found of a formula of the store, as it is said of its line
 pub some_crossing : (task : Strips) (sets : List FormulaState) (xs : List (List (List Literal)))

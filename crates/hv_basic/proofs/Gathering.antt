@@ -29,7 +29,7 @@ pub its_family : (lines : List Line) (leaf set : ℕ) (sign : Bool)
 its_family lines leaf set true is = (family_of is.1.0, (is.1.0, is.1.1, refl))
 its_family lines leaf set false is = (family_of is.1.0, (is.1.0, is.1.1, refl))
 
-family_once : (lines : List Line) (set other : ℕ) (first second : Option FormulaFamily)
+pub family_once : (lines : List Line) (set other : ℕ) (first second : Option FormulaFamily)
     → set ≡ other → IsItsFamily lines set first → IsItsFamily lines other second → first ≡ second
 family_once lines set other first second same (x, at, is) (y, there, also) =
     let one : x ≡ y = same_Some x y (sym at ∙ (ap (λ s. expr_at lines s) same ∙ there)) in

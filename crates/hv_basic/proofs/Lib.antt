@@ -30,4 +30,5 @@ pub mod Literals
 pub mod JointVerdicts
 pub mod Denying
 pub mod Negations
+pub mod Telling
 pub mod Excluding

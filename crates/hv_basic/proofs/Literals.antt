@@ -1,44 +1,42 @@
 -- Where a set of the left side has a clause each of whose literals puts a state into a set of the
 -- right side, the left side is within the right one.
 use Rattle.std.proofs.Common.{◌≡◌, ℕ, ◌∙◌, ◌⊎◌, Bool, true, false, not, List, [], ◌∷◌}
-use Rattle.std.proofs.Common.{Option, Some, None, length, slice_get, refl, sym, ap}
+use Rattle.std.proofs.Common.{Option, Some, None, get_or, length, slice_get, refl, sym, ap}
 use Rattle.std.proofs.Common.{subst, inl, inr, arith, Result, Ok, Err, OnOk}
 use Rattle.std.proofs.lemmas.Bool.{and_from, and_parts, cond-false, false_from_ne_true}
-use Rattle.std.proofs.lemmas.List.Folds.{Any-from_list_any, list_any_at}
-use Rattle.std.proofs.lemmas.Option.{same_Some, slice_get-map}
+use Rattle.std.proofs.lemmas.List.Folds.{list_any_at}
+use Rattle.std.proofs.lemmas.Option.{same_Some, slice_get-get_or, slice_get-map}
 use Rattle.std.specs.BTreeMap.{is_at}
 use Rattle.std.specs.BTreeSet.{BTreeSet, Updates, contains}
 use Rattle.std.specs.List.{Contains, list_all}
-use Rattle.std.specs.Option.{IfSome}
-use Rattle.hv_task.specs.Strips.{Strips, atoms}
+use Rattle.hv_task.specs.Strips.{atoms}
+use Rattle.hv_sets.specs.Cubes.{opposite}
 use Rattle.hv_sets.specs.Query.{action_of, asked, in_operand, in_which, is_clash, may_apply}
 use Rattle.hv_sets.specs.Truth.{in_clause, in_clauses, in_literal}
 use Rattle.hv_sets.specs.declared.literal.Literal.{Literal}
 use Rattle.hv_sets.specs.declared.operand.Operand.{Operand}
 use Rattle.hv_sets.specs.declared.query.Query.{Query}
 use Rattle.hv_explicit.proofs.Anchored.{passes_at}
+use Rattle.hv_propagation.proofs.Holding.{clause_found, opposite_is}
 use Rattle.hv_lines.specs.Numbering.{expr_at}
 use Rattle.hv_lines.specs.Queries.{PassesBudget, asked_actions, dual_in, has_of, horn_in, named_by}
 use Rattle.hv_lines.specs.Queries.{operand_of, queries_of, query_of, two_in, which_at}
 use Rattle.hv_lines.specs.Setting.{Setting}
 use Rattle.hv_lines.specs.Shapes.{IsWithinFamily, QuestionState, family_of}
-use Rattle.hv_lines.specs.Verdicts.{DecidesNothing, IsVerdictOfSets}
+use Rattle.hv_lines.specs.Verdicts.{DecidesNothing}
 use Rattle.hv_lines.specs.declared.formula_family.FormulaFamily.{FormulaFamily}
 use Rattle.hv_lines.specs.declared.formula_family.FormulaFamily.TheVariants as F
 use Rattle.hv_lines.specs.declared.line.Expr.{Expr}
 use Rattle.hv_lines.specs.declared.line.Expr.TheVariants as E
 use Rattle.hv_lines.specs.declared.line.Line.{Line}
-use Rattle.hv_lines.specs.declared.verdict.Verdict.TheVariants as V
-use Rattle.hv_lines.proofs.Elements.{got_mapped}
+use Rattle.hv_lines.proofs.Elements.{cons_cases, got_mapped, nothing_in}
 use Rattle.hv_lines.proofs.Named.{counts_before, family_is, found_number, which_is}
-use Rattle.hv_basic.specs.Deciding.{IsQuestionOver}
-use Rattle.hv_basic.specs.Sharing.{AreEnoughFor, AreWays, IsEnoughFor, NamesLiteral}
-use Rattle.hv_basic.specs.Sharing.{order, own_clauses}
-use Rattle.hv_basic.specs.Working.Sharing.{HasEnough, IsEnoughWithin}
-use Rattle.hv_basic.specs.Working.Views.{question_of}
-use Rattle.hv_basic.specs.declared.shared.Kept.{Kept}
+use Rattle.hv_basic.specs.Sharing.{AreEnoughFor, IsAgainstSet, IsEnoughFor, IsNegatedIn}
+use Rattle.hv_basic.specs.Sharing.{NamesLiteral, order, own_clauses}
+use Rattle.hv_basic.specs.Working.Told.{HasEnough}
+use Rattle.hv_basic.specs.declared.signed_sets.Leaf.{Leaf}
 use Rattle.hv_basic.proofs.Ordering.{at_same}
-use Rattle.hv_basic.proofs.Within.{map_has, offered, passes_out, ways_are}
+use Rattle.hv_basic.proofs.Within.{map_has}
 
 -- one literal more
 pub literal_put : (old new : BTreeSet (ℕ × Bool)) (literal other : Literal)
@@ -79,6 +77,9 @@ pub one_of : {X : Type 0} (xs : List X) (x : X) → length xs ≡ 1 → slice_ge
 one_of [] x size at = absurd (omega (arith, size))
 one_of (y ∷ []) x size at = ap (λ z. z ∷ []) (same_Some y x at)
 one_of (y ∷ z ∷ xs) x size at = absurd (omega (arith, size))
+
+pub only_first : {X : Type 0} (xs : List X) (d : X) → length xs ≡ 1 → xs ≡ get_or xs 0 d ∷ []
+only_first xs d size = one_of xs (get_or xs 0 d) size (slice_get-get_or xs 0 d (omega (arith, size)))
 
 module _ (setting : Setting) (lines : List Line) (family : FormulaFamily) (state : List Bool) where
   abbrev is_in : ℕ → Bool
@@ -135,60 +136,68 @@ module _ (setting : Setting) (lines : List Line) (family : FormulaFamily) (state
       (list_any_at (λ (l : Literal). in_literal l state) clause k literal below
       (ap (λ (l : Literal). in_literal l state) here ∙ holds)) refl)
 
--- no state is in a positive operand where that puts it into a negative one
-no_clash_by : (task : Strips) (sets : ℕ → List Bool → Bool) (query : Query) (o : Operand)
-    (state : List Bool) → Contains query.positive o
-    → (in_operand task sets (action_of task query.action) state o ≡ true
-    → (p : Operand) × Contains query.negative p
-    × (in_operand task sets (action_of task query.action) state p ≡ true))
-    → is_clash task sets query state ≡ false
-no_clash_by task sets query o state has by =
-    let action = action_of task query.action in
-    let inside : Operand → Bool = λ p. in_operand task sets action state p in
-    false_from_ne_true (is_clash task sets query state) (λ yes.
-    let parts = and_parts (may_apply action state) _ yes in
-    let sides = and_parts (list_all inside query.positive) _ parts.1 in
-    let there = by (passes_at inside query.positive o sides.0 has) in
-    let out = passes_at (λ p. not (inside p)) query.negative there.0 sides.1 there.1 in
-    let both : not true ≡ true = subst (λ b. not b ≡ true) there.2 out in
-    absurd (cc (both)))
+  -- and one that is against the set puts it out of it
+  pub by_opposite : (set : ℕ) (literal : Literal) → IsAgainstSet lines set literal
+      → IsWithinFamily lines family set → in_literal literal state ≡ true → is_in set ≡ true → ⊥
+  by_opposite set literal (expr, at, (clauses, is, among)) within holds inside =
+      let all = sym (in_formula set expr clauses at is within) ∙ inside in
+      let clause = passes_at (λ c. in_clause c state) clauses (opposite literal ∷ []) all among in
+      let found = clause_found (opposite literal ∷ []) state clause in
+      let same : opposite literal ≡ found.0 = elim (cons_cases (opposite literal) [] found.0 found.1)
+      [ inl is ↦ is | inr none ↦ absurd (nothing_in found.0 none) ] in
+      let turned : not (in_literal literal state) ≡ true = sym (opposite_is literal state)
+      ∙ (ap (λ (l : Literal). in_literal l state) same ∙ found.2) in
+      let both : not true ≡ true = subst (λ b. not b ≡ true) holds turned in
+      absurd (cc (both))
 
 module _ (setting : Setting) (lines : List Line) (q : QuestionState) (own : ℕ) (after : Bool)
-    (literals : BTreeSet (ℕ × Bool)) (asked_for : Contains q.positive (own, after))
-    (enough : AreEnoughFor lines after q.negative literals)
+    (leaves : List Leaf) (literals : BTreeSet (ℕ × Bool))
+    (asked_for : Contains q.positive (own, after))
+    (enough : AreEnoughFor lines after q.negative leaves literals)
+    (negated : (set : ℕ) → IsNegatedIn leaves set → Contains q.positive (set, after))
     (within : (set : ℕ) → Contains q.positive (set, after) ⊎ Contains q.negative (set, after)
     → IsWithinFamily lines q.family set)
     (has : HasEnough lines own literals) where
   abbrev sets : ℕ → List Bool → Bool
   sets = has_of setting lines q.family
 
-  into : (state : List Bool) → is_in setting lines q.family state own ≡ true
+  -- the set has a state only where that is in a negative one too, or out of a positive one
+  into : (state : List Bool)
+      → ((set : ℕ) → Contains q.positive (set, after) → is_in setting lines q.family state set ≡ true)
       → (set : ℕ) × Contains q.negative (set, after)
       × (is_in setting lines q.family state set ≡ true)
   into state inside =
       let clauses = sym (in_formula setting lines q.family state own has.expr has.clauses has.at
-      has.of (within own (inl asked_for))) ∙ inside in
+      has.of (within own (inl asked_for))) ∙ inside own asked_for in
       let clause = passes_at (λ c. in_clause c state) has.clauses has.clause clauses has.among in
-      let found = Any-from_list_any (λ (l : Literal). in_literal l state) has.clause clause in
-      let literal = found.1 in
-      let w = enough literal (has.enough literal (found.0, found.2, found.3)) in (
-        w.0,
-        w.1,
-        by_literal setting lines q.family state w.0 literal w.2 (within w.0 (inr w.1)) found.4,
-      )
+      let found = clause_found has.clause state clause in
+      elim (enough found.0 (has.enough found.0 found.1)) [
+        | inl (set, c, of) ↦ (
+          set,
+          c,
+          by_literal setting lines q.family state set found.0 of (within set (inr c)) found.2,
+        )
+        | inr (set, c, against) ↦
+            absurd (by_opposite setting lines q.family state set found.0 against
+            (within set (inl (negated set c))) found.2 (inside set (negated set c)))
+      ]
 
   enough_clash : (action : Option ℕ) (state : List Bool)
       → is_clash setting.task sets (query_of lines q action) state ≡ false
   enough_clash action state =
+      let query = query_of lines q action in
       let by = action_of setting.task action in
-      no_clash_by setting.task sets (query_of lines q action) (operand_of lines (own, after)) state
-      (map_has (λ a. operand_of lines a) q.positive (own, after) asked_for)
-      (λ inside.
-      let w = into (asked by after state) inside in (
-        operand_of lines (w.0, after),
-        map_has (λ a. operand_of lines a) q.negative (w.0, after) w.1,
-        w.2,
-      ))
+      let inside : Operand → Bool = λ p. in_operand setting.task sets by state p in
+      false_from_ne_true (is_clash setting.task sets query state) (λ yes.
+      let parts = and_parts (may_apply by state) _ yes in
+      let sides = and_parts (list_all inside query.positive) _ parts.1 in
+      let there = into (asked by after state) (λ set c.
+      passes_at inside query.positive (operand_of lines (set, after)) sides.0
+      (map_has (λ a. operand_of lines a) q.positive (set, after) c)) in
+      let out = passes_at (λ p. not (inside p)) query.negative (operand_of lines (there.0, after))
+      sides.1 (map_has (λ a. operand_of lines a) q.negative (there.0, after) there.1) in
+      let both : not true ≡ true = subst (λ b. not b ≡ true) there.2 out in
+      absurd (cc (both)))
 
   pub enough_decided : ((action : Option ℕ) → PassesBudget setting lines q.family
       (query_of lines q action) → ⊥)
@@ -203,29 +212,3 @@ module _ (setting : Setting) (lines : List Line) (q : QuestionState) (own : ℕ)
       subst (DecidesNothing (PassesBudget setting lines q.family)
       (is_clash setting.task sets) (atoms setting.task)) w.2
       (free w.0, λ state size. enough_clash w.0 state)
-
--- the verdict on the question beside what is kept
-pub enough_within : (setting : Setting) (lines : List Line) (kept : Kept)
-    → IsQuestionOver lines (question_of kept.question)
-    → IfSome kept.ways (AreWays lines kept.question.negative.items)
-    → AreEnoughFor lines kept.after kept.question.negative.items kept.enough
-    → IsEnoughWithin lines kept setting.budget
-    → IsVerdictOfSets setting lines (question_of kept.question) V.True
-enough_within setting lines kept over told enough own =
-    let q : QuestionState = question_of kept.question in
-    let few = own.within in
-    let are : AreWays lines q.negative few.ways =
-    subst (λ o. IfSome o (AreWays lines kept.question.negative.items)) few.told told in
-    let is = ways_are setting.task lines q.family q.negative few.ways are
-    (λ a c. over.is.family.within false a ((over.is.negative a).0 c)) in (
-      offered lines q q.family few.family,
-      enough_decided setting lines q own.own kept.after kept.enough own.asked_for enough
-          (λ set. elim [
-            | inl c ↦ over.is.family.within true (set, kept.after)
-                ((over.is.positive (set, kept.after)).0 c)
-            | inr c ↦ over.is.family.within false (set, kept.after)
-                ((over.is.negative (set, kept.after)).0 c)
-          ]) own.has
-          (λ action. passes_out setting lines (query_of lines q action) few.ways q.family few.family
-          is few.few),
-    )

@@ -33,7 +33,7 @@ use Rattle.hv_lines.proofs.Laws.{expr_at_more, expr_below, exprs_grow, refers_be
 use Rattle.hv_lines.proofs.Truth.{and_is, or_is}
 use Rattle.hv_lines.proofs.Elements.{cons_cases, head_in, tail_in}
 use Rattle.hv_basic.specs.Sharing.{AreEnoughFor, AreNegations, ArePlain, AreWays, HasLeaf}
-use Rattle.hv_basic.specs.Sharing.{HasToChoose, IsEnoughFor}
+use Rattle.hv_basic.specs.Sharing.{HasToChoose, IsEnoughFor, IsNegatedFamily}
 use Rattle.hv_basic.specs.Sharing.{IsKeptFor, IsNoFormula, IsPlainSide, IsRightSide, IsTheFamily}
 use Rattle.hv_basic.specs.Sharing.{NamesLiteral}
 use Rattle.hv_basic.specs.Working.Gathered.{IsThe}
@@ -227,20 +227,6 @@ module _ (line : Line) (older : List Line) (next : MayFollow older line) where
       of_right set left right leaf x was has
       (leaf_before parts earlier right leaf (earlier set left right x was has).1 of)
 
-  enough_more : (after : Bool) (asked : Askings) (literals : BTreeSet (ℕ × Bool)) → IsTable older
-      → AreEnoughFor older after asked literals → AreEnoughFor (line ∷ older) after asked literals
-  enough_more after asked literals table are literal has =
-      let w = are literal has in
-      let expr = w.2.0 in (
-        w.0,
-        w.1,
-        (
-          expr,
-          expr_at_more line older w.0 next (expr_below older w.0 expr table w.2.1) ∙ w.2.1,
-          w.2.2,
-        ),
-      )
-
 which_at_more : (line : Line) (older : List Line) (e : ℕ) → MayFollow older line
     → e < expr_count older
     → which_at (line ∷ older) e ≡ which_at older e
@@ -325,6 +311,31 @@ module _ (line : Line) (older : List Line) (next : MayFollow older line) (table 
     plain_more line older next inner table plain,
   )
 
+  enough_more : (after : Bool) (asked : Askings) (leaves : List Leaf)
+      (literals : BTreeSet (ℕ × Bool)) → AreEnoughFor older after asked leaves literals
+      → AreEnoughFor (line ∷ older) after asked leaves literals
+  enough_more after asked leaves literals are literal has = elim (are literal has) [
+    | inl (set, c, (expr, at, of)) ↦ inl (
+      set,
+      c,
+      (expr, expr_at_more line older set next (expr_below older set expr table at) ∙ at, of),
+    )
+    | inr (set, c, (expr, at, of)) ↦ inr (
+      set,
+      c,
+      (expr, expr_at_more line older set next (expr_below older set expr table at) ∙ at, of),
+    )
+  ]
+
+  negated_family_more : (leaves : List Leaf) (family : Option FormulaFamily)
+      → IsNegatedFamily older leaves family → IsNegatedFamily (line ∷ older) leaves family
+  negated_family_more leaves None none = λ set c.
+      no_formula_more line older next set table (none set c)
+  negated_family_more leaves (Some family) (within, (some, has, of)) = (
+    λ set c. within_more line older next family set table (within set c),
+    (some, has, formula_more line older next family some table of),
+  )
+
   negations_more : (leaves : List Leaf) → AreNegations older leaves
       → AreNegations (line ∷ older) leaves
   negations_more leaves are leaf c =
@@ -347,9 +358,11 @@ side_more line older kept next is = record {
         is.plain.one_family;
   };
   ways = told_more line older next kept.question.negative.items kept.ways is.plain.table is.ways;
-  enough = enough_more line older next kept.after kept.question.negative.items kept.enough
-      is.plain.table is.enough;
+  enough = enough_more line older next is.plain.table kept.after kept.question.negative.items
+      kept.negations.items kept.enough is.enough;
   negations = negations_more line older next is.plain.table kept.negations.items is.negations;
+  negated = negated_family_more line older next is.plain.table kept.negations.items kept.negated
+      is.negated;
   named = λ yes.
       is.named yes
       ∙ operands_more line older kept.question.negative.items next
@@ -501,10 +514,12 @@ pub side_put : (lines : List Line) (old new : Kept) (leaf place : ℕ)
     → NamesLiteral old.enough literal ⊎ IsEnoughFor lines leaf literal)
     → (new.named ≡ true → (old.named ≡ true) × (place ≡ length old.question.negative.items)
     × (new.query.negative ≡ old.query.negative ++ operand_of lines (leaf, old.after) ∷ []))
-    → new.negations ≡ old.negations → IsPlainSide lines (record new { family = both })
+    → new.negations ≡ old.negations → new.negated ≡ old.negated
+    → IsPlainSide lines (record new { family = both })
 side_put lines old new leaf place both expr side plain at with is put same (other, other_at, ways)
-    enough named negations =
+    enough named negations negated =
     let asked = old.question.negative.items in
+    let leaves = old.negations.items in
     record {
       plain = subst (ArePlain lines new.after both) (sym put)
           (subst (λ b. ArePlain lines b both (insert asked place (leaf, old.after))) (sym same)
@@ -513,16 +528,22 @@ side_put lines old new leaf place both expr side plain at with is put same (othe
       ways = subst (λ xs. IfSome new.ways (AreWays lines xs)) (sym put)
           (told_put lines asked place leaf old.after old.ways new.ways other side.ways other_at
           ways);
-      enough = subst (λ xs. AreEnoughFor lines new.after xs new.enough) (sym put)
-          (subst (λ b. AreEnoughFor lines b (insert asked place (leaf, old.after)) new.enough)
-          (sym same) (λ literal has. elim (enough literal has) [
-            | inl was ↦
-                let w = side.enough literal was in
-                (w.0, insert_in asked place (leaf, old.after) (w.0, old.after) w.1, w.2)
-            | inr own ↦ (leaf, inserted asked place (leaf, old.after), own)
-          ]));
+      enough = subst (λ (v : Vec Leaf). AreEnoughFor lines new.after new.question.negative.items
+          v.items new.enough) (sym negations)
+          (subst (λ xs. AreEnoughFor lines new.after xs leaves new.enough) (sym put)
+          (subst (λ b. AreEnoughFor lines b (insert asked place (leaf, old.after)) leaves
+          new.enough) (sym same) (λ literal has. elim (enough literal has) [
+            | inl was ↦ elim (side.enough literal was) [
+              | inl (set, c, of) ↦
+                  inl (set, insert_in asked place (leaf, old.after) (set, old.after) c, of)
+              | inr against ↦ inr against
+            ]
+            | inr own ↦ inl (leaf, inserted asked place (leaf, old.after), own)
+          ])));
       negations = subst (λ (v : Vec Leaf). AreNegations lines v.items) (sym negations)
           side.negations;
+      negated = subst (λ (v : Vec Leaf). IsNegatedFamily lines v.items new.negated) (sym negations)
+          (subst (IsNegatedFamily lines leaves) (sym negated) side.negated);
       named = λ yes.
           let h = named yes in
           let last : new.question.negative.items ≡ asked ++ (leaf, old.after) ∷ [] =
@@ -700,6 +721,7 @@ made_twice lines kept root part below shared same beside =
         ways = is.side.ways;
         enough = is.side.enough;
         negations = is.side.negations;
+        negated = is.side.negated;
         named = is.side.named;
       };
       leaves = λ leaf. (
@@ -822,6 +844,7 @@ shared_asked lines kept query named same shared = asked kept.root shared
         ways = right.side.ways;
         enough = right.side.enough;
         negations = right.side.negations;
+        negated = right.side.negated;
         named = same;
       };
       leaves = right.leaves;

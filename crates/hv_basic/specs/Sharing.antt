@@ -5,13 +5,14 @@ use Rattle.std.specs.BTreeSet.{BTreeSet, contains}
 use Rattle.std.specs.List.{All, Contains}
 use Rattle.std.specs.Ordering.{bool_cmp, nat_cmp, ordering_then}
 use Rattle.std.specs.declared.cmp.Ordering.{Ordering}
+use Rattle.hv_sets.specs.Cubes.{opposite}
 use Rattle.hv_sets.specs.declared.literal.Literal.{Literal}
 use Rattle.hv_lines.specs.Literals.{IsNegatedSet, IsPlainSet}
 use Rattle.hv_lines.specs.Meaning.{acts_of}
 use Rattle.hv_lines.specs.Numbering.{IsTable, acts_count, expr_at, expr_count}
 use Rattle.hv_lines.specs.Queries.{operand_of}
-use Rattle.hv_lines.specs.Shapes.{Askings, AskingsRise, IsAndLeaf, IsOfFamily, IsOrLeaf}
-use Rattle.hv_lines.specs.Shapes.{IsWithinFamily, family_of, most_operands}
+use Rattle.hv_lines.specs.Shapes.{Askings, AskingsRise, IsAndLeaf}
+use Rattle.hv_lines.specs.Shapes.{IsOfFamily, IsOrLeaf, IsWithinFamily, family_of, most_operands}
 use Rattle.hv_lines.specs.declared.formula_family.FormulaFamily.{FormulaFamily}
 use Rattle.hv_lines.specs.declared.formula_family.FormulaFamily.TheVariants as F
 use Rattle.hv_lines.specs.declared.line.Constant.TheVariants as C
@@ -113,16 +114,38 @@ abbrev pub NamesLiteral : BTreeSet (ℕ × Bool) → Literal → Type 0
 NamesLiteral literals literal =
     contains order literals (literal.atom, literal.positive) ≡ true
 
--- each of the literals is enough for one of the sets that are asked about
-abbrev pub AreEnoughFor : List Line → Bool → Askings → BTreeSet (ℕ × Bool) → Type 0
-AreEnoughFor lines after asked literals =
+-- a state in which the literal is true isn't in the set: this has the opposite as a clause
+abbrev pub IsAgainstSet : List Line → ℕ → Literal → Type 0
+IsAgainstSet lines set literal =
+    (expr : Expr) × (expr_at lines set ≡ Some expr)
+    × ((clauses : List (List Literal)) × (own_clauses expr ≡ Some clauses)
+    × Contains clauses (opposite literal ∷ []))
+
+-- one of the leaves was read as the negation of the set
+abbrev pub IsNegatedIn : List Leaf → ℕ → Type 0
+IsNegatedIn leaves set = (leaf : Leaf) × Contains leaves leaf
+    × (leaf.literal ≡ Some (record { set = set; is_plain = false }))
+
+-- each of the literals is enough for one of the sets that are asked about, or against one of which
+-- a leaf is the negation
+abbrev pub AreEnoughFor : List Line → Bool → Askings → List Leaf → BTreeSet (ℕ × Bool) → Type 0
+AreEnoughFor lines after asked leaves literals =
     (literal : Literal) → NamesLiteral literals literal
-    → (set : ℕ) × Contains asked (set, after) × IsEnoughFor lines set literal
+    → ((set : ℕ) × Contains asked (set, after) × IsEnoughFor lines set literal)
+    ⊎ ((set : ℕ) × IsNegatedIn leaves set × IsAgainstSet lines set literal)
 
 -- the leaves are negations, with what was read of each
 abbrev pub AreNegations : List Line → List Leaf → Type 0
 AreNegations lines leaves = (leaf : Leaf) → Contains leaves leaf
     → IsNegatedSet lines leaf.place × IsLeafRead lines leaf
+
+-- the formulas of which the leaves are negations are all of the family, or there are none
+abbrev pub IsNegatedFamily : List Line → List Leaf → Option FormulaFamily → Type 0
+IsNegatedFamily lines leaves None =
+    (set : ℕ) → IsNegatedIn leaves set → IsNoFormula lines set
+IsNegatedFamily lines leaves (Some family) =
+    ((set : ℕ) → IsNegatedIn leaves set → IsWithinFamily lines family set)
+    × ((set : ℕ) × IsNegatedIn leaves set × IsOfFamily lines family set)
 
 -- the leaf is kept, among the formulas and constants or among the negations
 abbrev pub HasLeaf : Kept → ℕ → Type 0
@@ -130,14 +153,16 @@ HasLeaf kept leaf =
     Contains kept.question.negative.items (leaf, kept.after)
     ⊎ Contains (places kept.negations.items) leaf
 
--- what is kept are formulas and constants, with the number of ways, where it is told, literals that
--- are enough for one of them, and the operands that ask about them, where they are named; and
--- negations
+-- what is kept are formulas and constants, with the number of ways, where it is told, and the
+-- operands that ask about them, where they are named; negations, with the family of what they
+-- negate; and literals each of which puts a state into one of these sets
 pub record IsPlainSide (lines : List Line) (kept : Kept) : Type 0 where
   pub plain : ArePlain lines kept.after kept.family kept.question.negative.items
   pub ways : IfSome kept.ways (AreWays lines kept.question.negative.items)
-  pub enough : AreEnoughFor lines kept.after kept.question.negative.items kept.enough
+  pub enough : AreEnoughFor lines kept.after kept.question.negative.items kept.negations.items
+      kept.enough
   pub negations : AreNegations lines kept.negations.items
+  pub negated : IsNegatedFamily lines kept.negations.items kept.negated
   pub named : kept.named ≡ true → kept.query.negative
       ≡ map (λ a. operand_of lines a) kept.question.negative.items
 

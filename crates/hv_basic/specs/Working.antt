@@ -13,3 +13,4 @@ pub mod Excluded
 pub mod Formulas
 pub mod Joints
 pub mod Sharing
+pub mod Told

@@ -13,9 +13,10 @@
 //! - `recent` brings what is kept of the right side, if that is a union, or of a part of it, and
 //!   `rights` keeps it, if its leaves are literals: where it is what is kept and a further set,
 //!   only the leaves of that set are looked up.
-//! - Where what is kept serves, and all that the left side asks about is positive, the question
-//!   is there already: `families` says whose family it is, and `rising` puts the left part in
-//!   order.
+//! - Where what is kept serves, `told` looks whether the left side asks for a set that the right
+//!   one has, or for one that is within it by few literals: then the statement is true.
+//! - Else, where all that the left side asks about is positive, the question is there already:
+//!   `families` says whose family it is, and `rising` puts the left part in order.
 //! - Else `shapes::question_beside` makes the question: `sides` reads the leaves of the right side
 //!   too, `families` looks for the one family, and `rising` puts both parts in order.
 //! - Either way `verdicts::decide_sets` decides the question. It makes the query of it by the names
@@ -46,8 +47,9 @@
 //! do four such rows of unions that are asked about by turns. Every other union on the right is
 //! looked at anew and kept in place of the one that wasn't asked about for longest. The leaves of
 //! the four intersections that were on the left last are kept in the same way, and what they ask is
-//! gathered for each statement. Negations among the leaves on the right are kept beside: what they
-//! ask about has the sign of the left side, and is gathered with what that asks. Where a negation
+//! gathered for each statement. Negations among the leaves on the right are kept beside, with their
+//! family: what they ask about has the sign of the left side, and is gathered with what that asks,
+//! where the statement isn't told to be true before. Where a negation
 //! on the left gives it something that is asked about with the sign of the right one, the statement
 //! is decided as if nothing were kept. What is kept is the negative half of a question and of its
 //! query; the invariant says that it is right for the lines so far, and a further line changes
@@ -68,10 +70,13 @@
 //! over listed states the length of the one list that the left side asks about. A right side that
 //! is one formula in clauses is looked for in the same way, whether it is kept or not. Nor is one
 //! asked where the left side asks for a formula, at the time of the right side, with a clause each
-//! of whose literals is in the only clause of some set of the right one: a state in which the
-//! clause is true is in such a set. The literals of the sets whose only clause has at most four are
-//! kept with the right side; on the left at most eight sets are looked at, each with at most eight
-//! clauses.
+//! of whose literals is in the only clause of some set of the right one, or the opposite of a lone
+//! literal of a formula that the right side has the negation of: a state in which the clause is true
+//! is in such a set, or outside of such a formula. The literals of the sets whose only clause has at
+//! most four, and of negated formulas with at most eight clauses, are kept with the right side; on
+//! the left at most eight sets are looked at, each with at most eight clauses. This is looked for
+//! before what the negations ask is gathered, so that a union that grows by negations doesn't cost
+//! more than one that grows by formulas.
 //!
 //! An action set is looked at from its newest part to its oldest, each part once, so a union that
 //! shares its parts costs its number of lines and not of paths. A list of actions that rises is
@@ -157,6 +162,7 @@ pub mod shared_verdicts;
 mod sides;
 mod signed_sets;
 pub mod store;
+mod told;
 mod turned;
 mod turned_by_look;
 pub mod verdicts;

@@ -2,15 +2,17 @@
 //! that set is looked at.
 
 ghost use Rattle.std.specs.Prelude.{◌≡◌, ◌<◌, ◌≤◌, ◌⊎◌, ◌++◌, ◌∷◌, Bool, true, [], None, Some, IfOk};
-ghost use Rattle.std.specs.Prelude.{IfSome, MatchOption, OnOk, length};
+ghost use Rattle.std.specs.Prelude.{IfSome, MatchOption, OnOk, false, length};
 ghost use Rattle.std.specs.List.{All, Contains, insert};
+ghost use Rattle.hv_sets.specs.Cubes.{opposite};
 ghost use Rattle.hv_sets.specs.declared.literal.Literal.{Literal};
 ghost use Rattle.hv_lines.specs.Numbering.{expr_at, expr_count};
 ghost use Rattle.hv_lines.specs.Queries.{operand_of};
 ghost use Rattle.hv_lines.specs.Shapes.{AskingsRise};
 ghost use Rattle.hv_lines.specs.declared.line.Expr.{Expr};
 ghost use Rattle.hv_basic.specs.Cases.{lines_in};
-ghost use Rattle.hv_basic.specs.Sharing.{IsEnoughFor, IsLoneFor, IsPlainSide, IsRightSide};
+ghost use Rattle.hv_basic.specs.Sharing.{IsAgainstSet, IsEnoughFor, IsLoneFor, IsPlainSide};
+ghost use Rattle.hv_basic.specs.Sharing.{IsRightSide};
 ghost use Rattle.hv_basic.specs.Sharing.{NamesLiteral, clauses_to_choose, own_clauses};
 ghost use Rattle.hv_basic.specs.Leaves.{IsLeafRead, places};
 ghost use Rattle.hv_basic.specs.Working.Sharing.{AreAddedTo, AreWaysWith, IsAddedTo};
@@ -21,7 +23,7 @@ use crate::case::Case;
 use crate::families::family_with;
 use crate::leaves::{Half, leaves};
 use crate::shared::Kept;
-use crate::signed_sets::Leaf;
+use crate::signed_sets::{Leaf, SignedSet};
 use hv_lines::{Constant, Expr, Table};
 use hv_sets::{Clauses, Literal, Operand, Operands};
 use std::alloc::{AllocError, Global};
@@ -29,6 +31,9 @@ use std::collections::BTreeSet;
 
 /// A clause with more literals isn't short.
 const MOST_SHORT: usize = 4;
+
+/// Of a set with more clauses no clause is looked at, and of a left side with more sets no set's.
+pub(crate) const MOST_FEW: usize = 8;
 
 /// Has the right side kept, asked about after the action (true) or before it, if it is a union of
 /// literals whose formulas, where they aren't negated, are of one family: whether it is kept.
@@ -129,6 +134,7 @@ fn clear(alloc: Global, kept: &mut Kept, after: bool)
     ensures ways { kept.new.ways ≡ Some 1 }
     ensures enough { (literal : Literal) → NamesLiteral kept.new.enough literal → ⊥ }
     ensures negations { kept.new.negations.items ≡ [] }
+    ensures negated { kept.new.negated ≡ None }
     ensures asked { kept.new.question.negative.items ≡ [] }
     ensures operands { kept.new.query.negative ≡ [] }
 {
@@ -138,6 +144,7 @@ fn clear(alloc: Global, kept: &mut Kept, after: bool)
     kept.ways = Some(1);
     kept.enough = BTreeSet::new(alloc);
     kept.negations = Vec::new(alloc);
+    kept.negated = None;
     kept.question.negative = Vec::new(alloc);
     kept.query.negative = Operands::new(alloc);
     kept.named = true;
@@ -219,8 +226,7 @@ fn add_one(case: &Case<'_>, kept: &mut Kept, leaf: Leaf) -> Result<bool, AllocEr
         return Ok(false);
     };
     if !literal.is_plain {
-        kept.negations.push(leaf)?;
-        return Ok(true);
+        return add_negation(case, kept, leaf, literal);
     }
     let Some(both) = family_with(kept.family, leaf.family) else {
         return Ok(false);
@@ -230,6 +236,31 @@ fn add_one(case: &Case<'_>, kept: &mut Kept, leaf: Leaf) -> Result<bool, AllocEr
     };
     put_in(case, kept, leaf.place, place)?;
     kept.family = both;
+    Ok(true)
+}
+
+/// Adds the leaf, which is the negation of this set, if no other family comes in by it.
+fn add_negation(
+    case: &Case<'_>,
+    kept: &mut Kept,
+    leaf: Leaf,
+    literal: SignedSet,
+) -> Result<bool, AllocError>
+    requires read { IsLeafRead (lines_in case.now) leaf }
+    requires is { leaf.literal ≡ Some literal }
+    requires negated { literal.is_plain ≡ false }
+    requires side { IsPlainSide (lines_in case.now) kept.old }
+    ensures side { IfOk result (λ yes. yes ≡ true → IsPlainSide (lines_in case.now) kept.new) }
+    ensures added { IfOk result (λ yes. yes ≡ true → IsAddedTo leaf.place kept.old kept.new) }
+    ensures root { kept.new.root ≡ kept.old.root }
+    ensures after { kept.new.after ≡ kept.old.after }
+{
+    let Some(both) = family_with(kept.negated, leaf.family) else {
+        return Ok(false);
+    };
+    put_opposites(&mut kept.enough, case.table, literal.set)?;
+    kept.negations.push(leaf)?;
+    kept.negated = both;
     Ok(true)
 }
 
@@ -247,6 +278,7 @@ fn put_in(case: &Case<'_>, kept: &mut Kept, set: usize, place: usize) -> Result<
         × (place ≡ length kept.old.question.negative.items) × (kept.new.query.negative
         ≡ kept.old.query.negative ++ operand_of (lines_in case.now) (set, kept.old.after) ∷ [])) }
     ensures negations { kept.new.negations ≡ kept.old.negations }
+    ensures negated { kept.new.negated ≡ kept.old.negated }
     ensures root { kept.new.root ≡ kept.old.root }
     ensures after { kept.new.after ≡ kept.old.after }
     ensures family { kept.new.family ≡ kept.old.family }
@@ -356,6 +388,58 @@ fn put_short(enough: &mut BTreeSet<(u32, bool)>, clause: &[Literal]) -> Result<(
         put_literal(enough, *literal)?;
     }
     Ok(())
+}
+
+/// Puts in the opposites of the lone literals of a set with few clauses: a state in which one of
+/// them is true isn't in the set.
+fn put_opposites(
+    enough: &mut BTreeSet<(u32, bool)>,
+    table: &Table,
+    set: usize,
+) -> Result<(), AllocError>
+    requires { set < expr_count table.now.lines }
+    ensures { OnOk result ((literal : Literal) → NamesLiteral enough.new literal
+        → NamesLiteral enough.old literal ⊎ IsAgainstSet table.now.lines set literal) }
+{
+    match own_clauses(table.expr(set)) {
+        None => Ok(()),
+        Some(clauses) => put_against(enough, clauses),
+    }
+}
+
+/// The same of these clauses.
+fn put_against(enough: &mut BTreeSet<(u32, bool)>, clauses: &Clauses) -> Result<(), AllocError>
+    ensures { OnOk result ((literal : Literal) → NamesLiteral enough.new literal
+        → NamesLiteral enough.old literal ⊎ Contains clauses.now (opposite literal ∷ [])) }
+{
+    if clauses.len() > MOST_FEW {
+        return Ok(());
+    }
+    for place in 0..clauses.len() {
+        put_opposite(enough, clauses.get(place))?;
+    }
+    Ok(())
+}
+
+/// Puts in the opposite of the clause's literal, if it has one alone.
+fn put_opposite(enough: &mut BTreeSet<(u32, bool)>, clause: &[Literal]) -> Result<(), AllocError>
+    ensures { OnOk result ((literal : Literal) → NamesLiteral enough.new literal
+        → NamesLiteral enough.old literal ⊎ (clause.now ≡ opposite literal ∷ [])) }
+{
+    if clause.len() != 1 {
+        return Ok(());
+    }
+    put_literal(enough, opposite(clause[0]))?;
+    Ok(())
+}
+
+fn opposite(literal: Literal) -> Literal
+    ensures { result ≡ opposite literal }
+{
+    Literal {
+        atom: literal.atom,
+        positive: !literal.positive,
+    }
 }
 
 fn put_literal(enough: &mut BTreeSet<(u32, bool)>, literal: Literal) -> Result<(), AllocError>

@@ -37,11 +37,13 @@ pub(crate) struct Kept {
     /// How many ways there are to choose one clause of each of its sets; none where that isn't
     /// told.
     pub ways: Option<u64>,
-    /// Literals each of which puts a state into one of its sets: those of sets with one short
-    /// clause.
+    /// Literals each of which puts a state into one of its sets, or out of one that is negated:
+    /// those of sets with one short clause, and the opposites of lone ones of negated sets.
     pub enough: BTreeSet<(u32, bool)>,
     /// The negations among its leaves, which ask about their sets with the sign of the left side.
     pub negations: Vec<Leaf>,
+    /// The family of the formulas that these negate; none where all are constants.
+    pub negated: Option<FormulaFamily>,
     pub question: Question,
     pub query: Query,
     /// Whether the query has the operands of the question.
@@ -121,6 +123,7 @@ pub(crate) fn no_side(alloc: Global) -> Kept
         ways: None,
         enough: BTreeSet::new(alloc),
         negations: Vec::new(alloc),
+        negated: None,
         question: Question {
             family: FormulaFamily::Horn,
             positive: Vec::new(alloc),

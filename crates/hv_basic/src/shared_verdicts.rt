@@ -2,7 +2,6 @@
 
 ghost use Rattle.std.specs.Prelude.{◌≡◌, ◌<◌, ◌≤◌, ℕ, Bool, true, false, List, [], ◌∷◌, IfOk, Some};
 ghost use Rattle.std.specs.Prelude.{IfErr, IfSome, OnOk, length};
-ghost use Rattle.hv_sets.specs.declared.literal.Literal.{Literal};
 ghost use Rattle.hv_lines.specs.Numbering.{IsTable, SpeaksBelow, acts_count, expr_count};
 ghost use Rattle.hv_lines.specs.Shapes.{AskingsRise, HasShape, IsQuestion, asks_sides_after};
 ghost use Rattle.hv_lines.specs.Shapes.{QuestionState as AskedQuestion};
@@ -11,15 +10,14 @@ ghost use Rattle.std.specs.List.{All, Contains};
 ghost use Rattle.hv_basic.specs.Deciding.{IsQuestionOver};
 ghost use Rattle.hv_basic.specs.Faults.{IsShapeFault};
 ghost use Rattle.hv_basic.specs.Cases.{lines_in, setting_in};
-ghost use Rattle.hv_basic.specs.Sharing.{AreEnoughFor, AreNegations, AreWays, IsKeptFor};
-ghost use Rattle.hv_basic.specs.Sharing.{IsRightSide, IsShared, NamesLiteral, clauses_to_choose};
+ghost use Rattle.hv_basic.specs.Sharing.{AreNegations, AreWays, IsKeptFor};
+ghost use Rattle.hv_basic.specs.Sharing.{IsRightSide, IsShared, clauses_to_choose};
 ghost use Rattle.hv_basic.specs.Working.Asked.{AreOperands};
 ghost use Rattle.hv_basic.specs.Working.Gathered.{IsLeftRead};
 ghost use Rattle.hv_lines.specs.declared.line.Line.{Line};
 ghost use Rattle.hv_basic.specs.Working.Sharing.{AreAskedBeside, IsAloneWithin};
 ghost use Rattle.hv_basic.specs.Working.Sharing.{AreNamed, IsAskedBy, IsInClauses, IsVerdictOfSub};
-ghost use Rattle.hv_basic.specs.Working.Sharing.{HasEnough, IsEnoughWithin, IsListWithinIts};
-ghost use Rattle.hv_basic.specs.Working.Sharing.{IsWithinIts, IsWithinWays};
+ghost use Rattle.hv_basic.specs.Working.Sharing.{IsListWithinIts, IsWithinIts};
 ghost use Rattle.hv_lines.specs.declared.line.Expr.TheVariants as E;
 ghost use Rattle.hv_basic.specs.declared.signed_sets.Asking.{Asking};
 ghost use Rattle.hv_basic.specs.Working.Views.{question_of};
@@ -31,20 +29,17 @@ use crate::families::one_family;
 use crate::kept_joints::verdict_by_joint;
 use crate::lefts::{asks_sides_after, left_of};
 use crate::recent::bring;
-use crate::rights::{clauses_to_choose, is_union, keep_right, lesser_before, own_clauses};
+use crate::rights::{clauses_to_choose, is_union, keep_right, lesser_before};
 use crate::rising::in_order;
 use crate::shapes::{MOST_OPERANDS, ShapeFault, question_beside, shape};
 use crate::shared::{Kept, Shared};
 use crate::sides::{Inclusion, Sides};
 use crate::signed_sets::{Asking, gather};
+use crate::told::is_told;
 use crate::verdicts::{decide_on, decide_sets, decide_whole, operands_of};
 use hv_lines::{Expr, FormulaFamily, Statement, Table, Verdict, Word};
-use hv_sets::{Literal, Scratch};
+use hv_sets::Scratch;
 use std::alloc::{AllocError, Global};
-use std::collections::BTreeSet;
-
-/// Of a left side with more sets, and of a set with more clauses, no clause is looked at.
-const MOST_FEW: usize = 8;
 
 /// The verdict of a basic statement with its word, as `shape` and `decide` give it. What right
 /// sides ask, the leaves of left sides, and which actions are in action sets, is kept for the
@@ -219,8 +214,7 @@ fn verdict_of_union(
     verdict_by_kept(alloc, case, &mut kept[last], scratch, claim, sides)
 }
 
-/// The same by what is kept, if what its sides ask can be told so, and else by the leaves of its
-/// right side.
+/// The same by what is kept, if the right side can be kept, and else by its leaves.
 fn verdict_by_kept(
     alloc: Global,
     case: &Case<'_>,
@@ -238,33 +232,41 @@ fn verdict_by_kept(
         → IsQuestion (lines_in case.now) claim.word claim.left claim.right question → ⊥)) }
     ensures kept { IsRightSide (lines_in case.now) kept.new }
 {
-    if ask_by_kept(alloc, case, kept, claim, &sides)? {
+    if !keep_right(alloc, case, kept, claim.right, asks_sides_after(claim.word))? {
+        return verdict_by_leaves(alloc, case, scratch, claim, sides);
+    }
+    if is_told(case, kept, &sides.askings) {
+        return Ok(Verdict::True);
+    }
+    verdict_by_question(alloc, case, kept, scratch, claim, sides)
+}
+
+/// The same by the question that is put beside what is kept, if no negation on the left asks
+/// anything, and else by the leaves of the right side.
+fn verdict_by_question(
+    alloc: Global,
+    case: &Case<'_>,
+    kept: &mut Kept,
+    scratch: &mut Scratch,
+    claim: Inclusion,
+    sides: Sides,
+) -> Result<Verdict, ShapeFault>
+    requires below { claim.right < expr_count (lines_in case.now) }
+    requires right { IsKeptFor (lines_in case.now) kept.old claim.right }
+    requires root { kept.old.root ≡ Some claim.right }
+    requires after { kept.old.after ≡ asks_sides_after claim.word }
+    requires left { IsLeftRead (lines_in case.now) claim.word claim.left sides }
+    ensures answer { IfOk result (IsVerdictOfSub (setting_in case.now) (lines_in case.now)
+        claim.word claim.left claim.right) }
+    ensures err { IfErr result (IsShapeFault ((question : AskedQuestion)
+        → IsQuestion (lines_in case.now) claim.word claim.left claim.right question → ⊥)) }
+    ensures kept { IsRightSide (lines_in case.now) kept.new }
+{
+    if ask(alloc, case.table, kept, claim, &sides)? {
         let verdict = decide_kept(alloc, case, kept, scratch)?;
         return Ok(verdict);
     }
     verdict_by_leaves(alloc, case, scratch, claim, sides)
-}
-
-/// Puts what the inclusion asks beside what is kept, if its right side can be kept and no negation
-/// on the left asks anything: whether it is there.
-fn ask_by_kept(
-    alloc: Global,
-    case: &Case<'_>,
-    kept: &mut Kept,
-    claim: Inclusion,
-    sides: &Sides,
-) -> Result<bool, AllocError>
-    requires right { claim.right < expr_count (lines_in case.now) }
-    requires left { IsLeftRead (lines_in case.now) claim.word claim.left sides.now }
-    requires kept { IsRightSide (lines_in case.now) kept.old }
-    ensures kept { IsRightSide (lines_in case.now) kept.new }
-    ensures asked { IfOk result (λ yes. yes ≡ true
-        → IsAskedBy (lines_in case.now) claim.word claim.left claim.right kept.new) }
-{
-    if !keep_right(alloc, case, kept, claim.right, asks_sides_after(claim.word))? {
-        return Ok(false);
-    }
-    ask(alloc, case.table, kept, claim, sides)
 }
 
 /// Puts what the left side asks beside what is kept of the right side.
@@ -364,17 +366,12 @@ fn decide_kept(
     requires named { AreNamed (lines_in case.now) kept.old }
     requires ways { IfSome kept.old.ways (AreWays (lines_in case.now)
         kept.old.question.negative.items) }
-    requires enough { AreEnoughFor (lines_in case.now) kept.old.after
-        kept.old.question.negative.items kept.old.enough }
     ensures answer { IfOk result (IsVerdictOfSets (setting_in case.now) (lines_in case.now)
         (question_of kept.old.question)) }
     ensures kept { IsRightSide (lines_in case.now) kept.old
         → IsRightSide (lines_in case.now) kept.new }
 {
     if is_within_its(kept, case.budget) {
-        return Ok(Verdict::True);
-    }
-    if is_enough_within(case, kept) {
         return Ok(Verdict::True);
     }
     if is_list_within_its(case, kept) {
@@ -423,76 +420,8 @@ fn is_within_its(kept: &Kept, budget: u64) -> bool
     have_common(&kept.question.positive, &kept.question.negative)
 }
 
-/// Whether the left side asks for a set at the time of the right one that has a clause each of
-/// whose literals puts a state into a set of the right one, and the cost is known to be within the
-/// budget.
-fn is_enough_within(case: &Case<'_>, kept: &Kept) -> bool
-    requires { All (λ a. a.0 < expr_count (lines_in case.now)) kept.now.question.positive.items }
-    ensures { result ≡ true → IsEnoughWithin (lines_in case.now) kept.now case.now.budget }
-{
-    if !is_within_ways(kept, case.budget) {
-        return false;
-    }
-    if kept.question.positive.len() > MOST_FEW {
-        return false;
-    }
-    for asked in &kept.question.positive {
-        if asked.1 == kept.after {
-            if has_enough(case.table, asked.0, &kept.enough) {
-                return true;
-            }
-        }
-    }
-    false
-}
-
-/// Whether the ways to choose clauses are the cost, and known to be within the budget.
-fn is_within_ways(kept: &Kept, budget: u64) -> bool
-    ensures { result ≡ true → IsWithinWays kept.now budget }
-{
-    if !is_in_clauses(kept.question.family) {
-        return false;
-    }
-    match kept.ways {
-        None => false,
-        Some(ways) => ways <= budget,
-    }
-}
-
-/// Whether the set has few clauses, and one whose literals are all among these.
-fn has_enough(table: &Table, set: usize, enough: &BTreeSet<(u32, bool)>) -> bool
-    requires { set < expr_count table.now.lines }
-    ensures { result ≡ true → HasEnough table.now.lines set enough.now }
-{
-    let Some(clauses) = own_clauses(table.expr(set)) else {
-        return false;
-    };
-    if clauses.len() > MOST_FEW {
-        return false;
-    }
-    for place in 0..clauses.len() {
-        if are_among(clauses.get(place), enough) {
-            return true;
-        }
-    }
-    false
-}
-
-/// Whether each literal of the clause is among these.
-fn are_among(clause: &[Literal], enough: &BTreeSet<(u32, bool)>) -> bool
-    ensures { result ≡ true → (literal : Literal) → Contains clause.now literal
-        → NamesLiteral enough.now literal }
-{
-    for literal in clause {
-        if !enough.contains(&(literal.atom, literal.positive)) {
-            return false;
-        }
-    }
-    true
-}
-
 /// Whether the ways to choose clauses are the cost over formulas of the family.
-fn is_in_clauses(family: FormulaFamily) -> bool
+pub(crate) fn is_in_clauses(family: FormulaFamily) -> bool
     ensures { result ≡ true → IsInClauses family }
 {
     match family {
@@ -603,7 +532,7 @@ fn have_common(first: &[(usize, bool)], second: &[(usize, bool)]) -> bool
 }
 
 /// Whether this is among what is asked about.
-fn is_among(asked: &[(usize, bool)], one: (usize, bool)) -> bool
+pub(crate) fn is_among(asked: &[(usize, bool)], one: (usize, bool)) -> bool
     requires { AskingsRise asked.now }
     ensures { result ≡ true → Contains asked.now one }
 {

@@ -17,8 +17,7 @@ use Rattle.hv_lines.specs.Setting.{Setting}
 use Rattle.hv_lines.specs.Verdicts.{IsVerdictOfSets}
 use Rattle.hv_lines.specs.declared.verdict.Verdict.{Verdict}
 use Rattle.hv_basic.specs.Leaves.{places}
-use Rattle.hv_basic.specs.Sharing.{AreEnoughFor, AreItsLeaves, AreWays, HasLeaf, NamesLiteral}
-use Rattle.hv_basic.specs.Sharing.{HasToChoose, clauses_to_choose, own_clauses}
+use Rattle.hv_basic.specs.Sharing.{AreItsLeaves, AreWays, HasLeaf, HasToChoose, clauses_to_choose}
 use Rattle.hv_basic.specs.Working.Asked.{AreOperands}
 use Rattle.hv_basic.specs.Working.Gathered.{AreGathered, IsFamilyIn}
 use Rattle.hv_basic.specs.Working.Views.{question_of}
@@ -115,7 +114,6 @@ pub record IsAskedBy (lines : List Line) (word : Word) (left right : ℕ) (kept 
   pub is : IsQuestion lines word left right (question_of kept.question)
   pub named : AreNamed lines kept
   pub ways : IfSome kept.ways (AreWays lines kept.question.negative.items)
-  pub enough : AreEnoughFor lines kept.after kept.question.negative.items kept.enough
 
 -- over formulas of the family the ways to choose clauses are the cost
 abbrev pub IsInClauses : FormulaFamily → Type 0
@@ -136,13 +134,6 @@ pub record IsWithinIts (kept : Kept) (budget : ℕ) : Type 0 where
   pub asked_for : Contains kept.question.positive.items own
   pub has : Contains kept.question.negative.items own
 
--- the ways to choose clauses are the cost, and within the budget
-pub record IsWithinWays (kept : Kept) (budget : ℕ) : Type 0 where
-  pub family : IsInClauses kept.question.family
-  pub ways : ℕ
-  pub told : kept.ways ≡ Some ways
-  pub few : ways ≤ budget
-
 -- the right side asks for one formula in clauses alone, for which the left side asks at the same
 -- time, and the cost is within the budget
 pub record IsAloneWithin (lines : List Line) (question : QuestionState) (budget : ℕ) : Type 0 where
@@ -153,24 +144,6 @@ pub record IsAloneWithin (lines : List Line) (question : QuestionState) (budget 
   pub ways : ℕ
   pub told : HasToChoose lines own.0 ways
   pub few : ways ≤ budget
-
--- some clause of the set has only literals that are enough
-pub record HasEnough (lines : List Line) (set : ℕ) (literals : BTreeSet (ℕ × Bool)) : Type 0 where
-  pub expr : Expr
-  pub at : expr_at lines set ≡ Some expr
-  pub clauses : List (List Literal)
-  pub of : own_clauses expr ≡ Some clauses
-  pub clause : List Literal
-  pub among : Contains clauses clause
-  pub enough : (literal : Literal) → Contains clause literal → NamesLiteral literals literal
-
--- the left side asks for a set at the time of the right side that has a clause whose literals are
--- each enough for a set of the right side, and the cost is within the budget
-pub record IsEnoughWithin (lines : List Line) (kept : Kept) (budget : ℕ) : Type 0 where
-  pub within : IsWithinWays kept budget
-  pub own : ℕ
-  pub asked_for : Contains kept.question.positive.items (own, kept.after)
-  pub has : HasEnough lines own kept.enough
 
 -- the verdict is that of the statement that the left set is within the right one, which has the
 -- shape of the word

@@ -1,23 +1,18 @@
 use Rattle.std.proofs.Common.{◌∙◌, subst}
-use Rattle.std.proofs.lemmas.Option.{IfSome_then}
 use Rattle.std.specs.Option.{IfSome}
 use Rattle.hv_task.specs.Strips.{atoms}
 use Rattle.hv_sets.specs.Truth.{in_clauses}
 use Rattle.hv_basic.specs.Working.Excluded.{AreLeading}
 use Rattle.hv_basic.specs.Working.Framed.{AreCrossing}
-use Rattle.hv_basic.proofs.Crossing.{crossing_from, stored_clauses}
+use Rattle.hv_basic.proofs.Crossing.{stored_clauses, turning_crossing}
 use Rattle.hv_basic.proofs.Excluding.{crossing_leading}
 use Rattle.hv_basic.proofs.framed.crossing_in.Goals as goal
 
 pub returns-then-is_none : goal.returns-then-is_none
 returns-then-is_none g c =
-    let task = c.args.case.now.task.now in
-    let into = c.args.frame.into in
-    IfSome_then c.in_ok-turned.turned c.in_ok-turned.ensures (λ numbers turning lists is.
-    subst (λ clauses. AreCrossing task (in_clauses clauses) into numbers)
-    (c.clauses-clauses.ensures.clauses
-    ∙ stored_clauses (atoms task) c.args.sets.now lists is c.args.frame.number c.get.result.now
-    c.get.ensures) (crossing_from task c.clauses-clauses.result.now into numbers turning))
+    turning_crossing c.args.case.now.task.now c.args.sets.now c.args.frame.number c.get.result.now
+    c.clauses-clauses.result.now c.args.frame.into c.in_ok-turned.turned c.get.ensures
+    c.clauses-clauses.ensures.clauses c.in_ok-turned.ensures
 
 pub returns-in-Some : goal.returns-in-Some
 returns-in-Some g c = λ lists is.
@@ -33,10 +28,6 @@ returns-in-Some g c = λ lists is.
 
 pub returns : goal.returns
 returns g c =
-    let task = c.args.case.now.task.now in
-    let into = c.args.frame.into in
-    IfSome_then c.in_ok-turned.turned c.in_ok-turned.ensures (λ numbers turning lists is.
-    subst (λ clauses. AreCrossing task (in_clauses clauses) into numbers)
-    (c.clauses-clauses.ensures.clauses
-    ∙ stored_clauses (atoms task) c.args.sets.now lists is c.args.frame.number c.get.result.now
-    c.get.ensures) (crossing_from task c.clauses-clauses.result.now into numbers turning))
+    turning_crossing c.args.case.now.task.now c.args.sets.now c.args.frame.number c.get.result.now
+    c.clauses-clauses.result.now c.args.frame.into c.in_ok-turned.turned c.get.ensures
+    c.clauses-clauses.ensures.clauses c.in_ok-turned.ensures

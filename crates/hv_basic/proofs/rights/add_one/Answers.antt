@@ -4,7 +4,6 @@ use Rattle.std.specs.List.{Contains}
 use Rattle.hv_lines.specs.Shapes.{Askings}
 use Rattle.hv_basic.specs.Cases.{lines_in}
 use Rattle.hv_basic.specs.Working.Sharing.{IsFamilyWith, IsPlaceFor}
-use Rattle.hv_basic.proofs.Negations.{negated_read, negation_put, negation_side}
 use Rattle.hv_basic.proofs.Sharing.{one_put, one_there, plain_read, side_put}
 use Rattle.hv_basic.proofs.rights.add_one.Goals as goal
 
@@ -31,6 +30,7 @@ returns-clause-side c = λ _.
     c.deref.ensures.value c.in-Some-place_for.ensures)
     c.in_ok-put_in.ensures.asked c.in_ok-put_in.ensures.after c.in_ok-put_in.ensures.ways
     c.in_ok-put_in.ensures.enough c.in_ok-put_in.ensures.named c.in_ok-put_in.ensures.negations
+    c.in_ok-put_in.ensures.negated
 
 pub returns-clause-added : goal.returns-clause-added
 returns-clause-added c = λ _.
@@ -44,14 +44,6 @@ returns-in_default-place_for-clause-added c = λ _.
     one_there (lines_in c.args.case.now) c.args.kept.now there.0 c.args.leaf.place
     c.requires.side.plain there.1
 
-pub returns-then-not-literal-clause-side : goal.returns-then-not-literal-clause-side
-returns-then-not-literal-clause-side c = λ _.
-    negation_side (lines_in c.args.case.now) c.args.kept.now c.push.new.self c.args.leaf
-    c.requires.side
-    (negated_read (lines_in c.args.case.now) c.args.leaf c.in-Some.literal c.in-Some.is
-    (not-true c.in-Some.literal.is_plain c.if-not-literal.true) c.requires.read)
-    c.requires.read c.in_ok-push.ensures.items
-
-pub returns-then-not-literal-clause-added : goal.returns-then-not-literal-clause-added
-returns-then-not-literal-clause-added c = λ _.
-    negation_put c.args.kept.now c.push.new.self c.args.leaf c.in_ok-push.ensures.items
+pub add_negation-requires-clause-negated : goal.add_negation-requires-clause-negated
+add_negation-requires-clause-negated c =
+    not-true c.in-Some.literal.is_plain c.if-not-literal.true

@@ -14,6 +14,7 @@ returns-clause-kept c = record {
         ways = side.ways;
         enough = side.enough;
         negations = side.negations;
+        negated = side.negated;
         named = side.named;
       };
   leaves =

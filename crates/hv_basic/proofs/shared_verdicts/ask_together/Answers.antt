@@ -30,5 +30,4 @@ returns-clause-asked c = λ _.
           c.in_ok-positive.ensures.rises c.in_ok-positive.ensures.chosen (search rules);
       named = c.requires.right.side.named;
       ways = c.requires.right.side.ways;
-      enough = c.requires.right.side.enough;
     }

@@ -3,24 +3,13 @@ use Rattle.hv_lines.specs.Queries.{operand_of}
 use Rattle.hv_basic.specs.Cases.{lines_in, setting_in}
 use Rattle.hv_basic.specs.Working.Views.{question_of}
 use Rattle.hv_basic.proofs.Sharing.{shared_asked}
-use Rattle.hv_basic.proofs.Literals.{enough_within}
-use Rattle.hv_basic.proofs.Within.{list_within, negative_below, own_within, positive_below}
+use Rattle.hv_basic.proofs.Within.{list_within, negative_below, own_within}
 use Rattle.hv_basic.proofs.shared_verdicts.decide_kept.Goals as goal
 
 pub returns-then-is_within_its-clause-answer : goal.returns-then-is_within_its-clause-answer
 returns-then-is_within_its-clause-answer c =
     own_within (setting_in c.args.case.now) (lines_in c.args.case.now) c.args.kept.now
     c.requires.question c.requires.ways (c.if-is_within_its.ensures refl)
-
-pub is_enough_within-requires : goal.is_enough_within-requires
-is_enough_within-requires c = λ k d below.
-    positive_below (lines_in c.args.case.now) c.requires.table
-    (question_of c.args.kept.now.question) c.requires.question k d below
-
-pub returns-then-is_enough_within-clause-answer : goal.returns-then-is_enough_within-clause-answer
-returns-then-is_enough_within-clause-answer c =
-    enough_within (setting_in c.args.case.now) (lines_in c.args.case.now) c.args.kept.now
-    c.requires.question c.requires.ways c.requires.enough (c.if-is_enough_within.ensures refl)
 
 pub returns-then-is_list_within_its-clause-answer : goal.returns-then-is_list_within_its-clause-answer
 returns-then-is_list_within_its-clause-answer c =

@@ -2,7 +2,7 @@ use Rattle.std.proofs.Common.{arith, below_more, get_or, subst, sym}
 use Rattle.std.proofs.lemmas.List.{get_or_default}
 use Rattle.hv_sets.specs.declared.literal.Literal.{Literal}
 use Rattle.hv_basic.specs.Sharing.{NamesLiteral}
-use Rattle.hv_basic.proofs.shared_verdicts.are_among.Goals as goal
+use Rattle.hv_basic.proofs.told.are_among.Goals as goal
 
 pub loop-literal-preserved : goal.loop-literal-preserved
 loop-literal-preserved c = λ k d.

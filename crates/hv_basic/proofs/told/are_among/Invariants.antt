@@ -1,7 +1,7 @@
 use Rattle.std.proofs.Common.{◌<◌, ℕ, get_or}
 use Rattle.hv_sets.specs.declared.literal.Literal.{Literal}
 use Rattle.hv_basic.specs.Sharing.{NamesLiteral}
-use Rattle.hv_basic.proofs.shared_verdicts.are_among.Given as goal
+use Rattle.hv_basic.proofs.told.are_among.Given as goal
 
 abbrev pub invariant-loop-literal : goal.invariant-loop-literal
 invariant-loop-literal l = (k : ℕ) (d : Literal) → k < l.literal-index

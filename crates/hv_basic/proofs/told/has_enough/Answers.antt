@@ -1,6 +1,6 @@
 use Rattle.std.proofs.Common.{refl}
 use Rattle.hv_lines.proofs.Elements.{got_in}
-use Rattle.hv_basic.proofs.shared_verdicts.has_enough.Goals as goal
+use Rattle.hv_basic.proofs.told.has_enough.Goals as goal
 
 pub returns-then-are_among : goal.returns-then-are_among
 returns-then-are_among c = λ _. record {
