@@ -10,15 +10,13 @@ use Rattle.std.proofs.lemmas.Option.{same_Some, slice_get-get_or, slice_get_with
 use Rattle.std.specs.List.{Contains}
 use Rattle.std.specs.Option.{IfSome, MatchOption}
 use Rattle.hv_lines.specs.Literals.{IsLiteral, IsNegatedSet}
-use Rattle.hv_lines.specs.Numbering.{IsTable, expr_at, expr_count}
+use Rattle.hv_lines.specs.Numbering.{IsTable, expr_count}
 use Rattle.hv_lines.specs.Queries.{PassesBudget, query_of}
 use Rattle.hv_lines.specs.Setting.{Setting}
 use Rattle.hv_lines.specs.Shapes.{AskedBefore, Askings, AskingsRise, IsLiteralOf, IsOfFamily}
 use Rattle.hv_lines.specs.Shapes.{IsQuestion, IsWithinFamily, QuestionState, asks_sides_after}
-use Rattle.hv_lines.specs.Shapes.{family_of}
 use Rattle.hv_lines.specs.Verdicts.{IsVerdictOfSets}
 use Rattle.hv_lines.specs.declared.formula_family.FormulaFamily.{FormulaFamily}
-use Rattle.hv_lines.specs.declared.line.Expr.{Expr}
 use Rattle.hv_lines.specs.declared.line.Line.{Line}
 use Rattle.hv_lines.specs.declared.line.Word.{Word}
 use Rattle.hv_lines.specs.declared.verdict.Verdict.TheVariants as V
@@ -32,7 +30,7 @@ use Rattle.hv_basic.specs.Working.Asked.{AreChosen}
 use Rattle.hv_basic.specs.Working.Gathered.{AreGathered, AreLeftAskings, HaveTheirFamilies, IsGiven}
 use Rattle.hv_basic.specs.Working.Gathered.{IsFamilyIn, IsLeftRead, IsThe}
 use Rattle.hv_basic.specs.Working.Sharing.{IsFamilyBeside, IsFamilyWith, IsVerdictOfSub}
-use Rattle.hv_basic.specs.Working.Told.{HasOwn, IsOwn, IsTold}
+use Rattle.hv_basic.specs.Working.Told.{HasOwn, IsOwn, IsToldTrue}
 use Rattle.hv_basic.specs.declared.shared.Kept.{Kept}
 use Rattle.hv_basic.specs.declared.sides.Sides.{Sides}
 use Rattle.hv_basic.specs.declared.signed_sets.Asking.{Asking}
@@ -430,7 +428,7 @@ kept_of lines kept root is same = subst (λ r. IfSome r (IsKeptFor lines kept)) 
 module _ (setting : Setting) (lines : List Line) (word : Word) (left right : ℕ) (kept : Kept)
     (sides : Sides) (is : IsKeptFor lines kept right) (late : kept.after ≡ asks_sides_after word)
     (read : IsLeftRead lines word left sides)
-    (told : IsTold lines kept sides.askings.items setting.budget) where
+    (told : IsToldTrue lines kept sides.askings.items setting.budget) where
   abbrev leaves : List Leaf
   leaves = kept.negations.items
 

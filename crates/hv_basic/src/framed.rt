@@ -59,12 +59,12 @@ pub(crate) fn crossing(
 
 /// How many literals may be looked at before each action is: the more clauses all but one of the
 /// sets have that are asked about positively, the more, since these are gone through anew for each
-/// action.
+/// action; and some for each action, which has to be asked about at least.
 pub(crate) fn most_literals(case: &Case<'_>, family: FormulaFamily, positive: &[Operand]) -> usize {
     let actions = case.task.actions() as usize;
     match clauses_of_others(case, family, positive) {
         0 => most_for(case.task),
-        count => actions.saturating_mul(4).saturating_mul(count),
+        count => actions.saturating_mul(count.saturating_add(6)),
     }
 }
 

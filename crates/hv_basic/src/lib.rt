@@ -105,9 +105,9 @@
 //! the literals and the actions in their rows are together more than a quarter as many as the
 //! task's actions, each action is looked at, and the atoms have flags. All actions are asked about
 //! where the literals are that many themselves, with a sixteenth of the atoms for the flags; or,
-//! where several formulas are asked about positively, where they are sixteen times as many for each
-//! of these formulas and of their clauses, but for the formula with the most, since the others are
-//! gone through anew for each action. Of several formulas that are asked
+//! where several formulas are asked about positively, where they are more for each action than six
+//! and one for each of these formulas and of their clauses, but for the formula with the most,
+//! since the others are gone through anew for each action. Of several formulas that are asked
 //! about at both times the one is taken for which the least is looked at.
 //!
 //! Where that formula's clauses have at most two literals, all negative or all positive, are many

@@ -2,7 +2,7 @@
 //! for a set that the right one has, or for one that has a clause each of whose literals puts a
 //! state into the right side.
 
-ghost use Rattle.std.specs.Prelude.{◌≡◌, ◌<◌, ◌≤◌, ◌+◌, ◌⊎◌, IfSome, true};
+ghost use Rattle.std.specs.Prelude.{◌≡◌, ◌<◌, ◌≤◌, ◌+◌, IfSome, true};
 ghost use Rattle.std.specs.List.{Contains};
 ghost use Rattle.hv_sets.specs.declared.literal.Literal.{Literal};
 ghost use Rattle.hv_lines.specs.Numbering.{IsTable, expr_count};
@@ -11,7 +11,7 @@ ghost use Rattle.hv_basic.specs.Cases.{lines_in};
 ghost use Rattle.hv_basic.specs.Sharing.{IsPlainSide, NamesLiteral};
 ghost use Rattle.hv_basic.specs.Working.Gathered.{HaveTheirFamilies};
 ghost use Rattle.hv_basic.specs.Working.Told.{AreOfFamily, AskOneFamily, HasEnough, HasOwn};
-ghost use Rattle.hv_basic.specs.Working.Told.{IsAffordable, IsOwn, IsTold};
+ghost use Rattle.hv_basic.specs.Working.Told.{IsOwn, IsToldTrue, IsWithinLimits};
 
 use crate::case::Case;
 use crate::families::{family_with, one_family};
@@ -29,7 +29,7 @@ use std::collections::BTreeSet;
 pub(crate) fn is_told(case: &Case<'_>, kept: &Kept, askings: &[Asking]) -> bool
     requires side { IsPlainSide (lines_in case.now) kept.now }
     requires families { HaveTheirFamilies (lines_in case.now) askings.now }
-    ensures { result ≡ true → IsTold (lines_in case.now) kept.now askings.now case.now.budget }
+    ensures { result ≡ true → IsToldTrue (lines_in case.now) kept.now askings.now case.now.budget }
 {
     if !is_affordable(kept, askings, case.budget) {
         return false;
@@ -45,7 +45,7 @@ pub(crate) fn is_told(case: &Case<'_>, kept: &Kept, askings: &[Asking]) -> bool
 
 /// Whether the sets are few enough, and the ways to choose clauses known to be within the budget.
 fn is_affordable(kept: &Kept, askings: &[Asking], budget: u64) -> bool
-    ensures { result ≡ true → IsAffordable kept.now askings.now budget }
+    ensures { result ≡ true → IsWithinLimits kept.now askings.now budget }
 {
     let Some(ways) = kept.ways else {
         return false;

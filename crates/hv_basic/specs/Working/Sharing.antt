@@ -1,9 +1,7 @@
 -- Working definitions beside those of `Sharing`: for private contracts and proofs.
 use Rattle.std.specs.Prelude.{◌≡◌, ◌<◌, ◌≤◌, ◌⊎◌, ◌↔◌, ◌*◌, ℕ, Bool, true, false, List, []}
 use Rattle.std.specs.Prelude.{◌∷◌, Option, None, Some, IfSome, length, slice_index_or}
-use Rattle.std.specs.BTreeSet.{BTreeSet}
 use Rattle.std.specs.List.{Contains}
-use Rattle.hv_sets.specs.declared.literal.Literal.{Literal}
 use Rattle.hv_lines.specs.Numbering.{IsTable, expr_at, expr_count}
 use Rattle.hv_lines.specs.Shapes.{Askings, IsOrLeaf, IsQuestion}
 use Rattle.hv_lines.specs.Shapes.{IsWithinFamily, QuestionState}

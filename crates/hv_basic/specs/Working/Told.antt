@@ -16,7 +16,7 @@ use Rattle.hv_basic.specs.declared.signed_sets.Asking.{Asking}
 
 -- the ways to choose clauses are told, and within the budget, and there aren't more sets than a
 -- statement can have
-pub record IsAffordable (kept : Kept) (askings : List Asking) (budget : ℕ) : Type 0 where
+pub record IsWithinLimits (kept : Kept) (askings : List Asking) (budget : ℕ) : Type 0 where
   pub ways : ℕ
   pub told : kept.ways ≡ Some ways
   pub within : ways ≤ budget
@@ -58,9 +58,9 @@ HasOwn lines kept askings = (own : Asking) × Contains askings own × (own.after
     × IsOwn lines kept own.set
 
 -- the statement is true, by a set that its left side asks for, and at a cost within the budget
-pub record IsTold (lines : List Line) (kept : Kept) (askings : List Asking) (budget : ℕ) : Type 0
+pub record IsToldTrue (lines : List Line) (kept : Kept) (askings : List Asking) (budget : ℕ) : Type 0
   where
-    pub affordable : IsAffordable kept askings budget
+    pub affordable : IsWithinLimits kept askings budget
     pub one_family : AskOneFamily kept askings
     pub positive : (asking : Asking) → Contains askings asking → asking.positive ≡ true
     pub own : HasOwn lines kept askings

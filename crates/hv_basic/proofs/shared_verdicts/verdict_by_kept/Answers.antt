@@ -1,7 +1,7 @@
 use Rattle.std.proofs.Common.{◌∙◌, List, refl, subst, sym}
 use Rattle.hv_basic.specs.Cases.{lines_in, setting_in}
 use Rattle.hv_basic.specs.Working.Gathered.{HaveTheirFamilies}
-use Rattle.hv_basic.specs.Working.Told.{IsTold}
+use Rattle.hv_basic.specs.Working.Told.{IsToldTrue}
 use Rattle.hv_basic.specs.declared.signed_sets.Asking.{Asking}
 use Rattle.hv_basic.proofs.Telling.{kept_of, left_families, told_within}
 use Rattle.hv_basic.proofs.shared_verdicts.verdict_by_kept.Goals as goal
@@ -23,5 +23,5 @@ returns-then-is_told-clause-answer c =
     (c.in_ok-keep_right.ensures.root c.if-not-branch.false))
     (c.in_ok-keep_right.ensures.after c.if-not-branch.false ∙ c.asks_sides_after.ensures)
     c.requires.left
-    (subst (λ (xs : List Asking). IsTold lines kept xs c.args.case.now.budget)
+    (subst (λ (xs : List Asking). IsToldTrue lines kept xs c.args.case.now.budget)
     c.deref.ensures.value (c.if-is_told.ensures refl))
