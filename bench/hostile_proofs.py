@@ -283,18 +283,38 @@ def states_and_actions(folder, percent):
     return count, checked(folder, task(folder, 65535, [0], [1], actions), lines.text)
 
 
-def two_sets_before(folder, percent):
-    """Two formulas before the actions, which have as many clauses as there are actions."""
-    count, lines = 40 * percent, Lines()
-    atoms = 2 * count + 100
-    formulas = []
-    for step in (1, 2):
-        pairs = ["-%d -%d 0" % (n + 1, count + (n * step) % count + 1) for n in range(count)]
-        formulas.append(lines.set("h %d " % count + " ".join(pairs)))
-    both = lines.set("i %d %d", *formulas)
-    lines.know("s %d %d b2", lines.set("p %d 0", both), formulas[0])
-    last = [((atoms - 1 - n % 50,), (atoms - 1 - (n + 1) % 50,), ()) for n in range(count)]
-    return count, checked(folder, task(folder, atoms, [0], [1], last), lines.text)
+def all_but_the_last(count):
+    """The words of a list of these actions but the last one."""
+    return "b %d %s" % (count - 1, " ".join(map(str, range(count - 1))))
+
+
+def untouched_list(folder, percent):
+    """Formulas of an atom that no action changes, each asked about with a list of actions."""
+    count, sets = 20000, max(1, percent // 2)
+    lines = Lines([all_but_the_last(count)])
+    for atom in range(sets):
+        formula = lines.set("h 1 -%d 0", 901 + atom)
+        lines.know("s %d %d b2", lines.set("p %d 0", formula), formula)
+    name = task(folder, 1200, [0], [1], ring(900, count))
+    return sets * (count - 1), checked(folder, name, lines.text)
+
+
+def two_sets_before(each, listed=False):
+    """Two formulas before the actions, which have as many clauses as there are actions: before all
+    of them, or before a list of them."""
+    def row(folder, percent):
+        count = each * percent
+        lines = Lines([all_but_the_last(count) if listed else "a"])
+        atoms = 2 * count + 100
+        formulas = []
+        for step in (1, 2):
+            pairs = ["-%d -%d 0" % (n + 1, count + (n * step) % count + 1) for n in range(count)]
+            formulas.append(lines.set("h %d " % count + " ".join(pairs)))
+        both = lines.set("i %d %d", *formulas)
+        lines.know("s %d %d b2", lines.set("p %d 0", both), formulas[0])
+        last = [((atoms - 1 - n % 50,), (atoms - 1 - (n + 1) % 50,), ()) for n in range(count)]
+        return count, checked(folder, task(folder, atoms, [0], [1], last), lines.text)
+    return row
 
 
 def start_before(folder, percent):

@@ -1,18 +1,17 @@
 -- Formulas of exclusions: what it does to rows to take an atom out, which atoms can have the value,
 -- and why an action after which no clause has all of them keeps the formula.
 use Rattle.std.proofs.Common.{◌≡◌, ℕ, ◌-◌, ◌≤◌, ◌<◌, ◌∙◌, ◌⊎◌, ◌&&◌, Bool, true, false, not, List, []}
-use Rattle.std.proofs.Common.{◌∷◌, Option, None, Some, arith, get_or, inl, inr, length, map, refl, set}
-use Rattle.std.proofs.Common.{◌||◌, ◌==◌, cond, slice_get, sym, ap, subst}
+use Rattle.std.proofs.Common.{◌∷◌, Some, arith, get_or, inl, inr, length, refl, set}
+use Rattle.std.proofs.Common.{◌||◌, ◌==◌, cond, sym, ap, subst}
 use Rattle.std.proofs.lemmas.Bool.{cases_eq, eqb-true}
 use Rattle.std.proofs.lemmas.Grind.{get_or-set_at}
 use Rattle.std.proofs.lemmas.List.{get_or_default, get_or-set_other, length-set}
 use Rattle.std.proofs.lemmas.List.Elements.{All-contains, Contains-get_or}
 use Rattle.std.proofs.lemmas.List.Folds.{Any-from_list_any, list_any_at}
 use Rattle.std.specs.List.{All, Contains}
-use Rattle.std.specs.Option.{IfSome}
 use Rattle.hv_task.specs.declared.action.Action.{Action}
 use Rattle.hv_task.specs.State.{AreBelow, applicable, has_atom, names_atom, put_all, successor}
-use Rattle.hv_task.specs.Strips.{IsOver, Strips, atoms}
+use Rattle.hv_task.specs.Strips.{IsOver, Strips}
 use Rattle.hv_task.proofs.Places.{has_all-Decides, has_atom-put_all, has_atom-successor}
 use Rattle.hv_task.proofs.Places.{length-put_all, names_atom-Decides}
 use Rattle.hv_sets.specs.Query.{asked}

@@ -1,12 +1,16 @@
--- What an inquiry over diagrams answers.
-use Rattle.std.proofs.Common.{◌≡◌, ℕ, Bool, List, subst}
+-- What inquiries answer.
+use Rattle.std.proofs.Common.{◌≡◌, ℕ, Bool, List, Option, subst}
 use Rattle.hv_task.specs.Strips.{Strips, atoms}
-use Rattle.hv_sets.specs.Cost.{IsAnswer}
+use Rattle.hv_sets.specs.Cost.{ClausesPass, IsAnswer}
 use Rattle.hv_sets.specs.Query.{is_clash}
 use Rattle.hv_sets.specs.declared.finding.Finding.{Finding}
 use Rattle.hv_sets.specs.declared.query.Query.{Query}
 use Rattle.hv_bdd.specs.Live.{LivePass, NodeTask}
 use Rattle.hv_bdd.specs.Nodes.{NodeList, in_node}
+use Rattle.hv_clauses.specs.Inquiry.{InquiryState, asked_with}
+use Rattle.hv_clauses.specs.Store.{formula_at, sizes_of, tests_of}
+use Rattle.hv_formula.specs.Clausal.{FormulaState}
+use Rattle.hv_basic.specs.Working.Asked.{with_action}
 
 module _ (query : Query) (budget : ℕ) (found : Finding) (state : List Bool) where
   -- the answer about a list and a task
@@ -21,3 +25,41 @@ module _ (query : Query) (budget : ℕ) (found : Finding) (state : List Bool) wh
   answer_here inquiry list task is_list is_task answer =
       subst (λ (l : NodeList). IsNodeAnswer l task) is_list
       (subst (IsNodeAnswer inquiry.list) is_task answer)
+
+-- what an inquiry about this asks about
+abbrev inquiry_about : Strips → List FormulaState → Query → ℕ → InquiryState
+inquiry_about task store query budget = record {
+  task = task;
+  store = store;
+  positive = query.positive;
+  negative = query.negative;
+  budget = budget;
+}
+
+module _ (action : Option ℕ) (found : Finding) (state : List Bool) where
+  -- the answer of an inquiry over formulas in clauses
+  abbrev pub IsClauseAnswer : InquiryState → Type 0
+  IsClauseAnswer i = IsAnswer found
+      (ClausesPass i.task (sizes_of (formula_at i.store)) (asked_with i.positive i.negative action)
+      i.budget) (atoms i.task)
+      (is_clash i.task (tests_of (formula_at i.store)) (asked_with i.positive i.negative action))
+      state
+
+  -- an inquiry about this task, store and query answers about them
+  pub clause_answer_here : (i : InquiryState) (task : Strips) (store : List FormulaState)
+      (query : Query) (budget : ℕ) → i.task ≡ task → i.store ≡ store
+      → i.positive ≡ query.positive → i.negative ≡ query.negative → i.budget ≡ budget
+      → IsClauseAnswer i
+      → IsAnswer found (ClausesPass task (sizes_of (formula_at store)) (with_action query action)
+      budget) (atoms task)
+      (is_clash task (tests_of (formula_at store)) (with_action query action)) state
+  clause_answer_here i task store query budget is_task is_store is_positive is_negative is_budget
+      answer =
+      let same : i ≡ inquiry_about task store query budget = λ j. record {
+        task = is_task j;
+        store = is_store j;
+        positive = is_positive j;
+        negative = is_negative j;
+        budget = is_budget j;
+      } in
+      subst IsClauseAnswer same answer

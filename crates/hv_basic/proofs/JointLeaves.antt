@@ -1,5 +1,5 @@
 -- The leaves of an intersection that are all formulas of one family, as what one formula stands for.
-use Rattle.std.proofs.Common.{◌≡◌, ℕ, ◌<◌, ◌+◌, ◌-◌, ◌++◌, ◌∙◌, ◌⊎◌, ◌↔◌, Bool, true, false, List, [], ◌∷◌}
+use Rattle.std.proofs.Common.{◌≡◌, ℕ, ◌<◌, ◌+◌, ◌-◌, ◌++◌, ◌∙◌, ◌↔◌, Bool, true, false, List, [], ◌∷◌}
 use Rattle.std.proofs.Common.{None, Option, Some, ap, arith, get_or, length, refl, slice_get, sym}
 use Rattle.std.proofs.Common.{inl, inr, subst}
 use Rattle.std.proofs.lemmas.List.{get_or-append-add, length-append}
@@ -7,7 +7,6 @@ use Rattle.std.proofs.lemmas.List.Elements.{All-push, Contains-get_or}
 use Rattle.std.proofs.lemmas.Option.{same_Some, slice_get-get_or, slice_get_within}
 use Rattle.std.specs.List.{All, Contains}
 use Rattle.std.specs.Option.{IfSome, MatchOption}
-use Rattle.hv_lines.specs.Literals.{IsLiteral, IsPlainSet}
 use Rattle.hv_lines.specs.Numbering.{expr_count}
 use Rattle.hv_lines.specs.Shapes.{Askings, AskingsRise, IsAndLeaf, IsLiteralOf, IsOfFamily, family_of}
 use Rattle.hv_lines.specs.Shapes.{most_operands}

@@ -1,6 +1,6 @@
 -- What a statement asks whose left side stands as one formula, and its verdict.
-use Rattle.std.proofs.Common.{◌≡◌, ℕ, zero, suc, ◌<◌, ◌≤◌, ◌*◌, ◌∙◌, ◌⊎◌, ◌↔◌, ◌&&◌, Bool, true, false, not}
-use Rattle.std.proofs.Common.{List, [], ◌∷◌, Option, Some, None, length, map, get_or, slice_get}
+use Rattle.std.proofs.Common.{◌≡◌, ℕ, zero, suc, ◌<◌, ◌≤◌, ◌∙◌, ◌&&◌, Bool, true, false, not}
+use Rattle.std.proofs.Common.{List, [], ◌∷◌, Option, Some, None, length, get_or, slice_get}
 use Rattle.std.proofs.Common.{Result, refl, sym, ap, ap₂, subst, inl, inr, arith}
 use Rattle.std.proofs.lemmas.List.Elements.{Contains-get_or}
 use Rattle.std.proofs.lemmas.List.Folds.{list_all-map}
@@ -9,7 +9,6 @@ use Rattle.std.proofs.lemmas.Result.{IfOk-weaker}
 use Rattle.std.specs.List.{Contains, list_all}
 use Rattle.std.specs.Option.{IfSome}
 use Rattle.std.specs.Result.{IfOk}
-use Rattle.hv_task.specs.declared.action.Action.{Action}
 use Rattle.hv_task.specs.Strips.{atoms}
 use Rattle.hv_sets.specs.Cost.{choices_of}
 use Rattle.hv_sets.specs.Query.{asked as asked_state, in_operand, is_clash}
@@ -23,9 +22,9 @@ use Rattle.hv_mixed.specs.Inclusion.{difference}
 use Rattle.hv_propagation.proofs.Effects.{list_all_from}
 use Rattle.hv_lines.specs.Literals.{IsPlainExpr, IsPlainSet}
 use Rattle.hv_lines.specs.Numbering.{expr_at}
-use Rattle.hv_lines.specs.Queries.{PassesBudget, has_of, operand_of, queries_of, query_of}
+use Rattle.hv_lines.specs.Queries.{PassesBudget, has_of, operand_of, query_of}
 use Rattle.hv_lines.specs.Setting.{Setting}
-use Rattle.hv_lines.specs.Shapes.{Askings, AskingsRise, IsAndLeaf, IsAsked, IsFamilyOf, IsLiteralOf}
+use Rattle.hv_lines.specs.Shapes.{Askings, AskingsRise, IsAndLeaf, IsAsked, IsLiteralOf}
 use Rattle.hv_lines.specs.Shapes.{IsOfFamily, IsOrLeaf, IsQuestion, IsWithinFamily, QuestionState}
 use Rattle.hv_lines.specs.Shapes.{alone, family_of, or_parts}
 use Rattle.hv_lines.specs.Verdicts.{DecidesNothing, IsVerdictOfSets}

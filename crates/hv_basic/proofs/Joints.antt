@@ -1,30 +1,23 @@
 -- One formula with the clauses of all leaves of an intersection stands for it: that stays right, and
 -- the verdict on it is the statement's.
-use Rattle.std.proofs.Common.{◌≡◌, ℕ, suc, ◌<◌, ◌≤◌, ◌∙◌, ◌⊎◌, ◌↔◌, ◌*◌, ◌&&◌, Bool, true, false, not}
-use Rattle.std.proofs.Common.{List, [], ◌∷◌, Option, Some, None, length, map, get_or, slice_get}
-use Rattle.std.proofs.Common.{drop, take, refl, sym, ap, subst, inl, inr, arith}
-use Rattle.std.proofs.lemmas.Bool.{and_from, and_parts}
+use Rattle.std.proofs.Common.{◌≡◌, ℕ, suc, ◌<◌, ◌∙◌, ◌↔◌, Bool, true}
+use Rattle.std.proofs.Common.{List, ◌∷◌, Option, Some, None, get_or}
+use Rattle.std.proofs.Common.{drop, take, sym, arith}
 use Rattle.std.proofs.lemmas.List.Elements.{All-append, All-drop, All-take, Contains-get_or}
-use Rattle.std.proofs.lemmas.List.Folds.{list_all-map}
-use Rattle.std.proofs.lemmas.Option.{slice_get_within}
-use Rattle.std.specs.List.{All, Contains, list_all, remove}
+use Rattle.std.specs.List.{All, Contains, remove}
 use Rattle.std.specs.Option.{IfSome}
-use Rattle.hv_task.specs.Strips.{atoms}
-use Rattle.hv_sets.specs.Query.{in_which, is_clash}
 use Rattle.hv_sets.specs.Truth.{in_clause, in_clauses}
 use Rattle.hv_sets.specs.declared.literal.Literal.{Literal}
 use Rattle.hv_explicit.proofs.Anchored.{passes_at}
-use Rattle.hv_lines.specs.Numbering.{MayFollow, IsTable, expr_at, expr_count}
+use Rattle.hv_lines.specs.Numbering.{MayFollow, IsTable, expr_count}
 use Rattle.hv_lines.specs.Shapes.{Askings, IsOfFamily, and_parts as and_parts_of}
 use Rattle.hv_lines.specs.declared.formula_family.FormulaFamily.{FormulaFamily}
-use Rattle.hv_lines.specs.declared.line.Expr.{Expr}
 use Rattle.hv_lines.specs.declared.line.Line.{Line}
-use Rattle.hv_lines.proofs.Elements.{in_mapped}
 use Rattle.hv_lines.proofs.Laws.{expr_at_more, exprs_grow}
 use Rattle.hv_lines.proofs.Shaped.{leaf_below}
 use Rattle.hv_propagation.proofs.Effects.{list_all_from}
 use Rattle.hv_basic.specs.Sharing.{AreJointClauses, AreLeavesAsked, HasClause, IsJointFor}
-use Rattle.hv_basic.specs.Sharing.{IsJointKept, IsJointOf, own_clauses}
+use Rattle.hv_basic.specs.Sharing.{IsJointKept, IsJointOf}
 use Rattle.hv_basic.specs.Working.Joints.{IsInEach}
 use Rattle.hv_basic.specs.declared.joint.JointFormula.{JointFormula}
 use Rattle.hv_basic.specs.declared.shared.KeptJoint.{KeptJoint}

@@ -29,9 +29,9 @@
 //!   (`exclusions`); where formulas before the action deny atoms
 //!   (`denied`), for those that need none of these, by the `action_rows` too. Else `actions` lists
 //!   the actions of the progression: those of a list that rises as they are there, else by the
-//!   flags of `acts`. For each of them `query_walk` asks the query of the store of the family, and
-//!   `node_walk` asks it of the diagrams; the first query that exceeds the budget or has a
-//!   counterexample decides.
+//!   flags of `acts`. For each of them `clausal_walk` asks the query of the store of the family by
+//!   one inquiry, `node_walk` asks it of the diagrams in the same way, and `query_walk` of listed
+//!   states; the first query that exceeds the budget or has a counterexample decides.
 //!
 //! Statements with `b1` and `b3` go the same way, without a step or with a regression. Those with
 //! `b4`, of two families, are decided in `mixed`, over the formulas that `any_formula` finds, and
@@ -136,6 +136,7 @@ pub mod basic;
 mod candidates;
 pub mod case;
 mod change_rows;
+mod clausal_walk;
 mod companions;
 mod denied;
 mod exclusions;

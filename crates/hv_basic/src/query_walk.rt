@@ -1,5 +1,6 @@
 //! The queries of a statement, one after the other: the query is built once, and only its action
-//! changes. One function serves all families but diagrams, which keep something between queries.
+//! changes. So it is for families that keep nothing between queries, as diagrams and formulas in
+//! clauses do.
 
 ghost use Rattle.std.specs.Prelude.{◌≡◌, IfOk, length, map};
 ghost use Rattle.hv_task.specs.Strips.{atoms};

@@ -26,6 +26,7 @@ use crate::acts_verdicts::decide_acts;
 use crate::basic::{Basic, BasicKind, Question};
 use crate::candidates::actions_to_ask;
 use crate::case::Case;
+use crate::clausal_walk::walk_clauses;
 use crate::mixed::decide_two;
 use crate::node_walk::walk_nodes;
 use crate::query_walk::walk;
@@ -213,7 +214,7 @@ fn decide_clauses<K: ClauseKind>(
     ensures lengths { KeepsLengths scratch.old scratch.new }
     ensures kept { query.new.negative ≡ query.old.negative }
 {
-    let verdict = walk(alloc, case, sets, query, actions, scratch)?;
+    let verdict = walk_clauses(alloc, case, sets, query, actions, scratch)?;
     Ok(verdict)
 }
 

@@ -1,6 +1,6 @@
 -- Joint formulas: what they are made of, and what is decided on them.
-use Rattle.std.specs.Prelude.{◌≡◌, ◌<◌, ◌≤◌, ◌↔◌, ℕ, Bool, true, false, List, ◌∷◌, []}
-use Rattle.std.specs.Prelude.{Option, Some, None, length, slice_get}
+use Rattle.std.specs.Prelude.{◌≡◌, ◌<◌, ◌≤◌, ℕ, Bool, true, false, List, ◌∷◌, []}
+use Rattle.std.specs.Prelude.{Some, None, length, slice_get}
 use Rattle.std.specs.List.{Contains}
 use Rattle.hv_task.specs.Strips.{atoms}
 use Rattle.hv_sets.specs.Truth.{in_clauses}

@@ -1,4 +1,4 @@
-use Rattle.std.proofs.Common.{◌≡◌, ◌∙◌, ◌-◌, ap, arith, false, get_or, length, subst}
+use Rattle.std.proofs.Common.{◌≡◌, ◌∙◌, ◌-◌, ap, false, get_or, length, subst}
 use Rattle.hv_sets.specs.declared.literal.Literal.{Literal}
 use Rattle.hv_basic.specs.Working.Excluded.{goes_with, parted}
 use Rattle.hv_basic.proofs.Excluding.{some_literal, twice_only}

@@ -1,7 +1,7 @@
-use Rattle.std.proofs.Common.{◌≡◌, ◌∙◌, ap, false, length, not, refl, subst, sym, true}
+use Rattle.std.proofs.Common.{◌∙◌, ap, false, length, not, refl, subst, sym, true}
 use Rattle.hv_task.specs.State.{AreBelow, put_all}
 use Rattle.hv_task.proofs.Places.{length-put_all}
-use Rattle.hv_basic.specs.Working.Excluded.{AreAbleAt, fixed_later, turned_atoms}
+use Rattle.hv_basic.specs.Working.Excluded.{AreAbleAt, turned_atoms}
 use Rattle.hv_basic.specs.Working.Framed.{sign_to}
 use Rattle.hv_basic.proofs.Crossing.{changed_below}
 use Rattle.hv_basic.proofs.Excluding.{able_after}

@@ -1,4 +1,4 @@
-use Rattle.std.proofs.Common.{◌<◌, ◌∙◌, ◌∷◌, [], ℕ, Bool, refl, subst, sym}
+use Rattle.std.proofs.Common.{◌<◌, ◌∙◌, [], ℕ, Bool, refl, subst, sym}
 use Rattle.std.proofs.lemmas.List.Elements.{All-contains}
 use Rattle.std.specs.List.{Contains}
 use Rattle.hv_lines.proofs.Elements.{head_in}
