@@ -21,7 +21,7 @@ use Rattle.hv_clauses.specs.declared.opening.Begun.TheVariants as B
 use Rattle.hv_clauses.specs.declared.opening.Opening.TheVariants as O
 use Rattle.hv_clauses.specs.Store.{formula_at, tests_of}
 use Rattle.hv_clauses.specs.Working.Early.{AreEarlyLeft, HoldInEarly, InEarly, IsBegunFrom}
-use Rattle.hv_clauses.specs.Working.Early.{IsEarlyPart, IsOpened}
+use Rattle.hv_clauses.specs.Working.Early.{IsOpened}
 use Rattle.hv_clauses.specs.Working.Found.{IsAskedTwice}
 use Rattle.hv_clauses.specs.Working.Owners.{AreOwners, Owns}
 use Rattle.hv_clauses.specs.Working.Posed.{InEach, ProblemState, formulas, turned_to, width}
@@ -163,14 +163,6 @@ owners_turned p q store positive owners are = λ sign.
       },
     )
 
--- where nothing is known, that is so in each state
-pub hold_nothing : (p : ProblemState) (k : Knowledge)
-    → k ≡ record { roots = marked (width p) []; trail = [] } → HoldInEach p (marks_of k)
-hold_nothing p k e = λ state size inside.
-    subst (λ (x : Knowledge). Agrees (marks_of x) state) (sym e)
-    (λ atom value is. let never : None ≡ Some value = sym (known-replicate (width p) atom) ∙ is in
-    absurd cc)
-
 -- what is known at the start is so in each state that is in each positive operand
 pub hold_started : (p : ProblemState) (roots : List Literal) (k : Knowledge)
     → HoldInEach p (marked (width p) roots)
@@ -231,91 +223,3 @@ module _ (p : ProblemState) (early : All (λ o. o.after ≡ false) p.query.posit
               has,
         )) (λ o has is. has) state inside),
   )
-
--- A problem of the operands of another one that are asked about before the action.
-module _ (p q : ProblemState) (task : q.task ≡ p.task) (store : q.store ≡ p.store)
-    (query : Query) (part : IsEarlyPart p.query.positive query)
-    (positive : q.query.positive ≡ query.positive) where
-  among_part : (o : Operand) → Contains q.query.positive o
-      → Contains p.query.positive o × (o.after ≡ false)
-  among_part o has =
-      part.among o (subst (λ (os : List Operand). Contains os o) positive has)
-
-  all_part : (o : Operand) → Contains p.query.positive o → o.after ≡ false
-      → Contains q.query.positive o
-  all_part o has is =
-      subst (λ (os : List Operand). Contains os o) (sym positive) (part.all o has is)
-
-  pub never_part : (k : Knowledge) → ((state : List Bool) → length state ≡ width q
-      → InEach q state → ⊥) → IsOpened p O.Never k
-  never_part k none = λ state size inside.
-      none state (size ∙ sym (ap (λ (t : Strips). atoms t) task))
-      (each_from_early p q task store among_part all_part state inside)
-
-  pub closed_part : (k : Knowledge) → HoldInEach q (marks_of k)
-      → AreLeft q k (length k.trail) → IsOpened p O.Closed k
-  closed_part k hold left = (
-    early_left_from p q task store among_part all_part k (length k.trail) left,
-    λ state size inside. hold state (size ∙ sym (ap (λ (t : Strips). atoms t) task))
-        (each_from_early p q task store among_part all_part state inside),
-  )
-
--- and the store has the sets that it names
-pub named_part : (p : ProblemState) (query : Query) → IsEarlyPart p.query.positive query
-    → All (λ o. IsNamed (length p.store) o.which) p.query.positive
-    → All (λ o. IsNamed (length p.store) o.which) (query.positive ++ query.negative)
-named_part p query part named =
-    subst (λ (ns : List Operand). All (λ o. IsNamed (length p.store) o.which)
-    (query.positive ++ ns)) (sym part.none) (λ k d within. at (get_or (query.positive ++ []) k d)
-    (Contains-get_or (query.positive ++ []) k d within))
-  where
-    at : (o : Operand) → Contains (query.positive ++ []) o → IsNamed (length p.store) o.which
-    at o has =
-        elim (Contains-append_cases query.positive [] o has) [
-          | inl here ↦ All-contains (λ (o : Operand). IsNamed (length p.store) o.which)
-              p.query.positive o named (part.among o here).0
-          | inr none ↦ absurd (omega (arith, none.1))
-        ]
-
--- The list of those before the action, as it is made: one operand more is looked at.
-module _ (os old new : List Operand) (i : ℕ) (d : Operand) (less : i < length os)
-    (same : (get_or os i d).after ≡ true → new ≡ old)
-    (more : (get_or os i d).after ≡ false → new ≡ old ++ get_or os i d ∷ []) where
-  pub early_among : ((o : Operand) → Contains old o → Contains os o × (o.after ≡ false))
-      → (o : Operand) → Contains new o → Contains os o × (o.after ≡ false)
-  early_among among o has = at (get_or os i d).after refl
-    where
-      at : (b : Bool) → (get_or os i d).after ≡ b → Contains os o × (o.after ≡ false)
-      at true is = among o (subst (λ (xs : List Operand). Contains xs o) (same is) has)
-      at false is =
-          elim (Contains-push_cases old (get_or os i d) o
-          (subst (λ (xs : List Operand). Contains xs o) (more is) has)) [
-            | inl here ↦ among o here
-            | inr one ↦ subst (λ (x : Operand). Contains os x × (x.after ≡ false)) one
-                (Contains-get_or os i d less, is)
-          ]
-
-  kept : (o : Operand) → Contains old o → Contains new o
-  kept o has = at (get_or os i d).after refl
-    where
-      at : (b : Bool) → (get_or os i d).after ≡ b → Contains new o
-      at true is = subst (λ (xs : List Operand). Contains xs o) (sym (same is)) has
-      at false is = subst (λ (xs : List Operand). Contains xs o) (sym (more is))
-          (Contains-append_left old (get_or os i d ∷ []) o has)
-
-  pub early_all : ((k : ℕ) → k < i → (f : Operand) → (get_or os k f).after ≡ false
-      → Contains old (get_or os k f))
-      → (k : ℕ) → k < i + 1 → (f : Operand) → (get_or os k f).after ≡ false
-      → Contains new (get_or os k f)
-  early_all all k lower f is =
-      elim (cases_lt k i) [
-        | inl before ↦ kept (get_or os k f) (all k before f is)
-        | inr past ↦
-            let here : k ≡ i = omega arith in
-            let one : get_or os i d ≡ get_or os k f =
-            get_or_default os i d f less ∙ ap (λ n. get_or os n f) (sym here) in
-            subst (λ (x : Operand). Contains new x) one
-            (subst (λ (xs : List Operand). Contains xs (get_or os i d))
-            (sym (more (ap (λ (x : Operand). x.after) one ∙ is)))
-            (Contains-push old (get_or os i d)))
-      ]

@@ -3,9 +3,10 @@
 //! A query with one negative operand, whose set is its one positive operand at the other time,
 //! costs what its action and its trail touch, and neither the number of atoms nor that of clauses,
 //! but for the one state that is written where there is a counterexample. So does, from the second
-//! search of an inquiry on, one with any number of positive operands before the action, the initial
-//! state and the goal among them: what these say together is found out once. Each further positive
-//! set after the action has each of its clauses looked at once for each search.
+//! search of an inquiry on that comes to the choices, one whose positive operands are all asked
+//! about before the action, any number of them, the initial state and the goal among them: what
+//! these say together is found out once. Where some are asked about after it, each positive set but
+//! the largest has each of its clauses looked at once for each search.
 //!
 //! `find` makes the scratch ready for the atoms of the task and for the places that are remembered
 //! of the clauses of the positive operands, which a formula of short clauses has none of. The
@@ -111,6 +112,14 @@ pub(crate) struct Means {
     pub alloc: Option<Global>,
 }
 
+// Whether a counterexample was met; and whether the search came through to the choices, and so went
+// through all that the positive operands say.
+#[derive(Clone, Copy)]
+pub(crate) struct Searched {
+    pub met: bool,
+    pub through: bool,
+}
+
 // Marks what follows from the precondition and the positive operands, and then tries the choices.
 // Where more is to be gone through than literals are in the positive operands, those that have
 // each literal are listed first.
@@ -121,12 +130,12 @@ pub(crate) fn search_from<K: ClauseKind>(
     cost: u64,
     marks: &mut Assignment<'_>,
     state: &mut State,
-) -> bool
+) -> Searched
     requires means { AreMeans problem.old means.now }
     requires cost { cost ≡ choices problem.old }
     requires begun { IsBegunWith problem.old begun marks.old }
     requires state { length state.old ≡ width problem.old }
-    ensures met { IsMetBelow result (choices problem.old) (width problem.old)
+    ensures met { IsMetBelow result.met (choices problem.old) (width problem.old)
         (FitsChoice problem.old) state.new }
     ensures grown { Grows marks.old marks.new }
     ensures same { problem.new ≡ problem.old }
@@ -135,11 +144,15 @@ pub(crate) fn search_from<K: ClauseKind>(
     let patience = literal_owners::patience(problem, means.size);
     let upto = marks.len().saturating_add(patience);
     let Some(place) = mark_base(problem, begun, upto, marks) else {
-        return false;
+        return Searched {
+            met: false,
+            through: false,
+        };
     };
     let pays = pays_to_list(problem, place, means, cost, marks);
     problem.list_owners(pays, means.alloc);
-    search_on(problem, place, means, cost, marks, state)
+    let met = search_on(problem, place, means, cost, marks, state);
+    Searched { met, through: true }
 }
 
 // Whether it pays to list the positive operands that have each literal: more is to be gone through

@@ -11,7 +11,7 @@ ghost use Rattle.hv_clauses.specs.Working.Early.{AreMeans, IsOpened};
 ghost use Rattle.hv_clauses.specs.Working.Found.{IsFound};
 ghost use Rattle.hv_clauses.specs.Working.Posed.{IsPosed, choices, formulas, width};
 
-use crate::find::{self, Means};
+use crate::find::{self, Means, Searched};
 use crate::formulas::Formulas;
 use crate::opening::{self, Begun, Opening};
 use crate::problem::Problem;
@@ -23,13 +23,13 @@ use hv_task::{State, Task};
 use std::alloc::Global;
 use std::marker::Model;
 
-// How many actions in a row are looked at before each search, whether they need none.
+// So many actions in a row are looked at, whether they need a search, if each of them does.
 const LOOKS: u32 = 8;
 
 /// Asks formulas a query about a task for one action after the other. What serves all actions is
-/// worked out once: the cost, which operand is asked about twice, and, before the second action
-/// that needs a search, what the positive operands that are asked about before the action say
-/// together, which stays on the trail.
+/// worked out once: the cost, which operand is asked about twice, and, after a first search that
+/// came to the choices, what the positive operands say together, if all are asked about before the
+/// action; that stays on the trail.
 #[derive(Drop)]
 pub struct ClauseInquiry<'a, K: ClauseKind> {
     problem: Problem<'a, K>,
@@ -37,7 +37,7 @@ pub struct ClauseInquiry<'a, K: ClauseKind> {
     means: Means,
     opening: Opening,
     marks: Assignment<'a>,
-    // Whether there was a search before.
+    // Whether a search came through to the choices before: it cost what the opening costs.
     again: bool,
     // How many actions more are looked at unless one of them needs no search.
     looks: u32,
@@ -133,10 +133,11 @@ impl<'a, K: ClauseKind> ClauseInquiry<'a, K> {
         let problem = &mut self.problem;
         let marks = &mut self.marks;
         self.opening = opening::opened(problem, &self.means, self.again, self.opening, marks);
-        self.again = true;
         let problem = &mut self.problem;
         let marks = &mut self.marks;
-        if search(problem, &self.means, cost, self.opening, marks, state) {
+        let searched = search(problem, &self.means, cost, self.opening, marks, state);
+        self.again = self.again | searched.through;
+        if searched.met {
             return Finding::Clash;
         }
         Finding::Empty
@@ -174,14 +175,14 @@ fn search<'a, K: ClauseKind>(
     opening: Opening,
     marks: &mut Assignment<'a>,
     state: &mut State,
-) -> bool
+) -> Searched
     requires posed { IsPosed problem.old }
     requires means { AreMeans problem.old means.now }
     requires cost { cost ≡ choices problem.old }
     requires wide { length marks.old.roots ≡ width problem.old }
     requires opened { IsOpened problem.old opening marks.old }
     requires state { length state.old ≡ width problem.old }
-    ensures found { IsFound result (width problem.old) (is_clash problem.old.task
+    ensures found { IsFound result.met (width problem.old) (is_clash problem.old.task
         (tests_of (formulas problem.old)) problem.old.query) state.new }
     ensures same { problem.new ≡ problem.old }
     ensures wide { length marks.new.roots ≡ width problem.old }
@@ -189,16 +190,22 @@ fn search<'a, K: ClauseKind>(
     ensures state { length state.new ≡ length state.old }
 {
     match opening {
-        Opening::Never => false,
+        Opening::Never => Searched {
+            met: false,
+            through: false,
+        },
         Opening::Closed => {
             let point = marks.len();
-            let met = find::search_from(problem, Begun::Early, means, cost, marks, state);
+            let searched = find::search_from(problem, Begun::Early, means, cost, marks, state);
             marks.undo(point);
-            met
+            searched
         }
         Opening::Unasked | Opening::Anew => {
             let Some(start) = start::start_of(problem) else {
-                return false;
+                return Searched {
+                    met: false,
+                    through: false,
+                };
             };
             let begun = Begun::From(start.operand);
             marks.start_over(start.roots);

@@ -10,14 +10,13 @@
 //! - `formulas` takes the query, or begins an `inquiry` about one for many actions. `problem` reads
 //!   its operands, through the effect of the action where they are asked about after it. `find`
 //!   searches.
-//! - Before the second search of an inquiry, `opening` puts on the trail what the positive operands
-//!   say together that are asked about before the action, with the initial state and the goal among
-//!   them. Each search begins there and goes back there: upon it come the action's `precondition`
-//!   and what follows from the operands after the action.
-//! - Where that wasn't looked at, or doesn't pay, `start` puts what is known at first below the
-//!   trail: what one positive operand forces. Upon it come the precondition, the initial state and
-//!   the goal, and what follows from the other operands, and in that one from the clauses to which
-//!   the action gives a false literal.
+//! - Where no positive operand comes after the action, and a search of an inquiry came to the
+//!   choices, `opening` puts on the trail what the positive operands say together, with the initial
+//!   state and the goal among them. Each further search begins there and goes back there: upon it
+//!   comes what follows from the action's `precondition`.
+//! - Else `start` puts what is known at first below the trail: what one positive operand forces.
+//!   Upon it come the precondition, the initial state and the goal, and what follows from the other
+//!   operands, and in that one from the clauses to which the action gives a false literal.
 //! - The positive operands are a condition that hv_propagation follows up. `literal_owners` says,
 //!   in a query with many of them, which have a literal that became false.
 //! - `choices`, `refuted`, `affected` and `fronts` go through the choices of one clause of each

@@ -24,7 +24,7 @@ use crate::rows;
 use hv_sets::{Clauses, Literal};
 use std::alloc::{AllocError, Global};
 
-// StandsAs for no literal.
+// Stands for no literal.
 const NONE: u32 = u32::MAX;
 
 // Of fewer clauses each is looked into, wherever that is.
@@ -37,20 +37,36 @@ pub(crate) struct EntryPair {
     pub second: u32,
 }
 
-// The entries for the literals of each clause, made in one way through the clauses: eight bytes
-// each, where a look into a clause far away reads more of them, at two places. Nothing of few.
+// The entries for the literals of each clause up to the last one of two literals, made in one way
+// through the clauses: eight bytes each, where a look into a clause far away reads more of them, at
+// two places. Nothing of few.
 pub(crate) fn pairs_of(alloc: Global, clauses: &Clauses) -> Result<Vec<EntryPair>, AllocError>
     requires { All (SpeakBelow (2 ^ 31)) clauses.now }
     ensures { IfOk result (λ pairs. AreEntryPairs clauses.now pairs.items) }
 {
-    if clauses.len() < FEW {
+    let upto = after_last_pair(clauses);
+    if upto < FEW {
         return Ok(Vec::new(alloc));
     }
-    let mut pairs = Vec::with_capacity(alloc, clauses.len())?;
-    for place in 0..clauses.len() {
+    let mut pairs = Vec::with_capacity(alloc, upto)?;
+    for place in 0..upto {
         pairs.push(entries_in(clauses.get(place)))?;
     }
     Ok(pairs)
+}
+
+// The place after the last clause of two literals, or 0 if there is none.
+fn after_last_pair(clauses: &Clauses) -> usize
+    ensures { result ≤ length clauses.now }
+{
+    let mut place = clauses.len();
+    while place > 0 {
+        if clauses.get(place - 1).len() == 2 {
+            return place;
+        }
+        place -= 1;
+    }
+    0
 }
 
 // The entries for the literals of a clause.

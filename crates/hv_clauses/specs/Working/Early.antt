@@ -2,9 +2,7 @@
 use Rattle.std.specs.Prelude.{◌≡◌, ◌<◌, ◌≤◌, ⊤, ℕ, Bool, true, false, List, [], IfSome}
 use Rattle.std.specs.Prelude.{length}
 use Rattle.std.specs.Option.{MatchOption}
-use Rattle.std.specs.List.{All, Contains}
-use Rattle.hv_sets.specs.declared.operand.Operand.{Operand}
-use Rattle.hv_sets.specs.declared.query.Query.{Query}
+use Rattle.std.specs.List.{All}
 use Rattle.hv_sets.specs.Query.{in_which}
 use Rattle.hv_clauses.specs.Store.{tests_of}
 use Rattle.hv_clauses.specs.declared.find.Means.{Means}
@@ -60,14 +58,6 @@ pub record IsBegunWith (p : ProblemState) (begun : Begun) (knowledge : Knowledge
   pub wide : length knowledge.roots ≡ width p
   pub follows : HoldInEach p (marks_of knowledge)
   pub from : IsBegunFrom p begun knowledge (length knowledge.trail)
-
--- the query asks about those of these operands that are asked about before the action, and each of
--- them, and about no other
-pub record IsEarlyPart (operands : List Operand) (query : Query) : Type 0 where
-  pub among : (o : Operand) → Contains query.positive o
-      → Contains operands o × (o.after ≡ false)
-  pub all : (o : Operand) → Contains operands o → o.after ≡ false → Contains query.positive o
-  pub none : query.negative ≡ []
 
 -- the operand that is said to be asked about twice is, if there is one
 abbrev pub AreMeans : ProblemState → Means → Type 0

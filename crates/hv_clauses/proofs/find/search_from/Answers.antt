@@ -15,5 +15,5 @@ returns-in_default-clause-met g c = λ number less state size fits.
 pub returns-clause-grown : goal.returns-clause-grown
 returns-clause-grown g c =
     grows_then _ _ _ c.mark_base.ensures.grown
-    (subst (λ (k : Knowledge). Grows k c.search_on.new.marks) c.pays_to_list-pays.ensures
-    c.search_on.ensures.grown)
+    (subst (λ (k : Knowledge). Grows k c.search_on-met.new.marks) c.pays_to_list-pays.ensures
+    c.search_on-met.ensures.grown)

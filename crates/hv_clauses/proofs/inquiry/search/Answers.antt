@@ -16,8 +16,8 @@ use Rattle.hv_clauses.proofs.inquiry.search.Goals as goal
 none_of : (r : Option Start) (N : Type 0) (P : Start → Type 0) → MatchOption r N P → r ≡ None → N
 none_of r N P found is = subst (λ o. MatchOption o N P) is found
 
-pub search_from-met-requires-clause-begun : goal.search_from-met-requires-clause-begun
-search_from-met-requires-clause-begun g c =
+pub search_from-searched-requires-clause-begun : goal.search_from-searched-requires-clause-begun
+search_from-searched-requires-clause-begun g c =
     let p = c.args.problem.now in
     let k = c.args.marks.now in
     let opened : IsOpened p O.Closed k =
@@ -62,31 +62,31 @@ returns-in-Never-clause-found g c =
 
 pub returns-in-Closed-clause-found : goal.returns-in-Closed-clause-found
 returns-in-Closed-clause-found g c =
-    found_from_met c.args.problem.now c.requires.posed c.search_from-met.result
-    c.search_from-met.new.state c.search_from-met.ensures.met
+    found_from_met c.args.problem.now c.requires.posed c.search_from-searched.result.met
+    c.search_from-searched.new.state c.search_from-searched.ensures.met
 
 pub returns-in-Closed-clause-wide : goal.returns-in-Closed-clause-wide
 returns-in-Closed-clause-wide g c =
-    let same = undone_same c.args.marks.now c.search_from-met.new.marks c.undo.new.self
-    c.search_from-met.ensures.grown
+    let same = undone_same c.args.marks.now c.search_from-searched.new.marks c.undo.new.self
+    c.search_from-searched.ensures.grown
     (c.undo.ensures ∙ ap (λ n. let z : Knowledge = record
-    { roots = c.search_from-met.new.marks.roots; trail = take n c.search_from-met.new.marks.trail }
+    { roots = c.search_from-searched.new.marks.roots; trail = take n c.search_from-searched.new.marks.trail }
     in z) c.len-point.ensures.len) in
     ap (λ (k : Knowledge). length k.roots) same ∙ c.requires.wide
 
 pub returns-in-Closed-clause-opened : goal.returns-in-Closed-clause-opened
 returns-in-Closed-clause-opened g c =
-    let same = undone_same c.args.marks.now c.search_from-met.new.marks c.undo.new.self
-    c.search_from-met.ensures.grown
+    let same = undone_same c.args.marks.now c.search_from-searched.new.marks c.undo.new.self
+    c.search_from-searched.ensures.grown
     (c.undo.ensures ∙ ap (λ n. let z : Knowledge = record
-    { roots = c.search_from-met.new.marks.roots; trail = take n c.search_from-met.new.marks.trail }
+    { roots = c.search_from-searched.new.marks.roots; trail = take n c.search_from-searched.new.marks.trail }
     in z) c.len-point.ensures.len) in
     subst (λ (k : Knowledge). IsOpened c.args.problem.now c.args.opening k) (sym same)
     c.requires.opened
 
 pub returns-in-Some-clause-found : goal.returns-in-Some-clause-found
 returns-in-Some-clause-found g c =
-    found_from_met c.args.problem.now c.requires.posed c.search_from.result
+    found_from_met c.args.problem.now c.requires.posed c.search_from.result.met
     c.search_from.new.state c.search_from.ensures.met
 
 pub returns-in-Some-clause-wide : goal.returns-in-Some-clause-wide

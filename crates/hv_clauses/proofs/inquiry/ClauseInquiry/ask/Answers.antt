@@ -1,9 +1,12 @@
 use Rattle.std.proofs.Common.{◌≡◌, ◌∙◌, ℕ, Option, refl, sym, ap, subst}
 use Rattle.hv_sets.specs.Cost.{ClausesPass}
 use Rattle.hv_clauses.specs.Inquiry.{InquiryState, asked_with}
-use Rattle.hv_clauses.specs.Store.{formula_at, sizes_of}
+use Rattle.hv_sets.specs.Query.{is_clash}
+use Rattle.hv_clauses.specs.Store.{formula_at, sizes_of, tests_of}
 use Rattle.hv_clauses.specs.Working.Early.{AreMeans, IsOpened}
-use Rattle.hv_clauses.specs.Working.Posed.{IsPosed, ProblemState, choices, turned_to, width}
+use Rattle.hv_clauses.specs.Working.Found.{IsFound}
+use Rattle.hv_clauses.specs.Working.Posed.{IsPosed, ProblemState, choices, formulas, turned_to}
+use Rattle.hv_clauses.specs.Working.Posed.{width}
 use Rattle.hv_clauses.proofs.Asking.{choices_turned, clash_answered, cost_from, empty_answered}
 use Rattle.hv_clauses.proofs.Asking.{means_turned, opened_turned, over_from, width_turned}
 use Rattle.hv_clauses.proofs.Asking.{inquiry_of, inquiry_turned, means_within_turned, within_turned}
@@ -43,29 +46,31 @@ opened-self-inside-requires-clause-wide g c =
     c.self.invariant.2 ∙ sym (width_turned s.problem c.turn_to.new.self c.args.action
     c.turn_to.ensures.turned)
 
-pub search-requires-clause-means : goal.search-requires-clause-means
-search-requires-clause-means g c =
+pub search-searched-requires-clause-means : goal.search-searched-requires-clause-means
+search-searched-requires-clause-means g c =
     let s = c.self.inside in
     subst (λ (x : ProblemState). AreMeans x s.means) (sym c.opened-self-inside.ensures.same)
     (means_turned s.problem c.turn_to.new.self c.args.action c.turn_to.ensures.turned s.means
     c.self.invariant.1.1)
 
-pub search-requires-clause-cost : goal.search-requires-clause-cost
-search-requires-clause-cost g c =
+pub search-searched-requires-clause-cost : goal.search-searched-requires-clause-cost
+search-searched-requires-clause-cost g c =
     let s = c.self.inside in
     (cost_from s.problem s.budget s.means c.self.invariant.1 c.in-Some.cost c.in-Some.is).0
     ∙ sym (ap choices c.opened-self-inside.ensures.same
     ∙ choices_turned s.problem c.turn_to.new.self c.args.action c.turn_to.ensures.turned)
 
-pub returns-then-search-clause-answer : goal.returns-then-search-clause-answer
-returns-then-search-clause-answer g c =
+pub returns-then-searched-clause-answer : goal.returns-then-searched-clause-answer
+returns-then-searched-clause-answer g c =
     let s = c.self.inside in
     let q = c.opened-self-inside.new.problem in
     let turned = turned_same s.problem c.turn_to.new.self q c.args.action c.opened-self-inside.ensures.same
     c.turn_to.ensures.turned in
     clash_answered s.problem q c.args.action turned s.budget c.args.self.now c.self.view_is
     (within_turned s.problem q c.args.action turned s.budget s.means
-    c.self.invariant.1 c.in-Some.cost c.in-Some.is) c.search.new.state c.if-search.ensures.found
+    c.self.invariant.1 c.in-Some.cost c.in-Some.is) c.search-searched.new.state
+    (subst (λ met. IsFound met (width q) (is_clash q.task (tests_of (formulas q)) q.query)
+    c.search-searched.new.state) c.if-searched.true c.search-searched.ensures.found)
 
 pub returns-clause-answer : goal.returns-clause-answer
 returns-clause-answer g c =
@@ -75,21 +80,23 @@ returns-clause-answer g c =
     c.turn_to.ensures.turned in
     empty_answered s.problem q c.args.action turned s.budget c.args.self.now c.self.view_is
     (within_turned s.problem q c.args.action turned s.budget s.means
-    c.self.invariant.1 c.in-Some.cost c.in-Some.is) c.search.new.state c.if-search.ensures.found
+    c.self.invariant.1 c.in-Some.cost c.in-Some.is) c.search-searched.new.state
+    (subst (λ met. IsFound met (width q) (is_clash q.task (tests_of (formulas q)) q.query)
+    c.search-searched.new.state) c.if-searched.false c.search-searched.ensures.found)
 
-pub search-requires-clause-posed : goal.search-requires-clause-posed
-search-requires-clause-posed g c =
+pub search-searched-requires-clause-posed : goal.search-searched-requires-clause-posed
+search-searched-requires-clause-posed g c =
     subst (λ (x : ProblemState). IsPosed x) (sym c.opened-self-inside.ensures.same)
     c.turn_to.ensures.posed
 
-pub search-requires-clause-opened : goal.search-requires-clause-opened
-search-requires-clause-opened g c =
+pub search-searched-requires-clause-opened : goal.search-searched-requires-clause-opened
+search-searched-requires-clause-opened g c =
     subst (λ (x : ProblemState). IsOpened x c.opened-self-inside.result
     c.opened-self-inside.new.marks) (sym c.opened-self-inside.ensures.same)
     c.opened-self-inside.ensures.opened
 
-pub search-requires-clause-wide : goal.search-requires-clause-wide
-search-requires-clause-wide g c =
+pub search-searched-requires-clause-wide : goal.search-searched-requires-clause-wide
+search-searched-requires-clause-wide g c =
     c.opened-self-inside.ensures.wide ∙ sym (ap width c.opened-self-inside.ensures.same)
 
 pub returns-then-is_idle-clause-same : goal.returns-then-is_idle-clause-same
@@ -102,7 +109,7 @@ pub returns-clause-same : goal.returns-clause-same
 returns-clause-same g c =
     let s = c.self.inside in
     ap (λ (x : ProblemState). inquiry_of x s.budget)
-    (c.search.ensures.same ∙ c.opened-self-inside.ensures.same)
+    (c.search-searched.ensures.same ∙ c.opened-self-inside.ensures.same)
     ∙ (inquiry_turned s.problem c.turn_to.new.self c.args.action c.turn_to.ensures.turned s.budget
     ∙ c.self.view_is)
 
@@ -120,29 +127,29 @@ invariant_of-self g c =
 pub invariant_of-self-2 : goal.invariant_of-self-2
 invariant_of-self-2 g c =
     let s = c.self.inside in
-    let q = c.search.new.problem in
-    let same = c.search.ensures.same ∙ c.opened-self-inside.ensures.same in
+    let q = c.search-searched.new.problem in
+    let same = c.search-searched.ensures.same ∙ c.opened-self-inside.ensures.same in
     let turned = turned_same s.problem c.turn_to.new.self q c.args.action same
     c.turn_to.ensures.turned in (
       subst (λ (x : ProblemState). IsPosed x) (sym same) c.turn_to.ensures.posed,
       means_within_turned s.problem q c.args.action turned s.budget s.means c.self.invariant.1,
-      c.search.ensures.wide ∙ sym (ap width c.search.ensures.same),
-      subst (λ (x : ProblemState). IsOpened x c.opened-self-inside.result c.search.new.marks)
-          (sym c.search.ensures.same) c.search.ensures.opened,
+      c.search-searched.ensures.wide ∙ sym (ap width c.search-searched.ensures.same),
+      subst (λ (x : ProblemState). IsOpened x c.opened-self-inside.result c.search-searched.new.marks)
+          (sym c.search-searched.ensures.same) c.search-searched.ensures.opened,
     )
 
-pub invariant_of-self-then-search : goal.invariant_of-self-then-search
-invariant_of-self-then-search g c =
+pub invariant_of-self-then-searched : goal.invariant_of-self-then-searched
+invariant_of-self-then-searched g c =
     let s = c.self.inside in
-    let q = c.search.new.problem in
-    let same = c.search.ensures.same ∙ c.opened-self-inside.ensures.same in
+    let q = c.search-searched.new.problem in
+    let same = c.search-searched.ensures.same ∙ c.opened-self-inside.ensures.same in
     let turned = turned_same s.problem c.turn_to.new.self q c.args.action same
     c.turn_to.ensures.turned in (
       subst (λ (x : ProblemState). IsPosed x) (sym same) c.turn_to.ensures.posed,
       means_within_turned s.problem q c.args.action turned s.budget s.means c.self.invariant.1,
-      c.search.ensures.wide ∙ sym (ap width c.search.ensures.same),
-      subst (λ (x : ProblemState). IsOpened x c.opened-self-inside.result c.search.new.marks)
-          (sym c.search.ensures.same) c.search.ensures.opened,
+      c.search-searched.ensures.wide ∙ sym (ap width c.search-searched.ensures.same),
+      subst (λ (x : ProblemState). IsOpened x c.opened-self-inside.result c.search-searched.new.marks)
+          (sym c.search-searched.ensures.same) c.search-searched.ensures.opened,
     )
 
 pub is_idle-requires-clause-means : goal.is_idle-requires-clause-means
