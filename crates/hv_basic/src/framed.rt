@@ -57,9 +57,11 @@ pub(crate) fn crossing(
     Ok(Some(numbers))
 }
 
-/// How many literals may be looked at before each action is: the more clauses all but one of the
-/// sets have that are asked about positively, the more, since these are gone through anew for each
-/// action; and some for each action, which has to be asked about at least.
+/// How many literals may be looked at before each action is. Where several sets are asked about
+/// positively, these are for each action six, and one for each of these sets and for each of their
+/// clauses, but for the set with the most clauses: so much may it cost to ask about the action, six
+/// for the question alone and the rest for a way through the others' clauses. Else they are a
+/// quarter as many as the actions.
 pub(crate) fn most_literals(case: &Case<'_>, family: FormulaFamily, positive: &[Operand]) -> usize {
     let actions = case.task.actions() as usize;
     match clauses_of_others(case, family, positive) {

@@ -215,8 +215,8 @@ fn verdict_within<K: ClauseKind>(
 
 /// Whether each state of the left formula is in the right one, by a walk over the clauses of the
 /// right one. Each is asked about with all its literals at once, in the rows of the scratch, which
-/// need no clearing: what the left formula forces by itself is worked out already, and a clause that
-/// follows from few others is found out by these.
+/// need no clearing: what the left formula forces by itself is worked out already, and a clause
+/// that follows from few others is found out by these.
 fn find_within<K: ClauseKind>(
     alloc: Global,
     left: &Formula<K>,

@@ -83,8 +83,8 @@ fn is_in_clauses(table: &Table, set: usize) -> bool
     )
 }
 
-/// The place of the left side. Where it isn't there, and its leaves are kept and are many, it is put
-/// last.
+/// The place of the left side. Where it isn't there, and its leaves are kept and are many, it is
+/// put last.
 fn bring_joint(
     alloc: Global,
     case: &Case<'_>,

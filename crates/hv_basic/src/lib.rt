@@ -57,11 +57,11 @@
 //! query is asked.
 //!
 //! An intersection on the left that was asked about before, has 16 leaves or more, and whose leaves
-//! are formulas in clauses of one family, with few clauses and literals, is kept as one formula with
-//! the clauses of all (`joint`, `kept_joints`), of the four left sides that were made so last. A
-//! statement without an action whose right side is one formula of the family is decided on it: each
-//! clause of the right formula is made false, and costs what follows from that, and not the number
-//! of leaves.
+//! are formulas in clauses of one family, with few clauses and literals, is kept as one formula
+//! with the clauses of all (`joint`, `kept_joints`), of the four left sides that were made so last.
+//! A statement without an action whose right side is one formula of the family is decided on it:
+//! each clause of the right formula is made false, and costs what follows from that, and not the
+//! number of leaves.
 //!
 //! Where the left side asks for a set that the right one has, no query is asked, since no state is
 //! in a set and outside of it. For that the cost has to be known to be within the budget: over
@@ -71,12 +71,12 @@
 //! is one formula in clauses is looked for in the same way, whether it is kept or not. Nor is one
 //! asked where the left side asks for a formula, at the time of the right side, with a clause each
 //! of whose literals is in the only clause of some set of the right one, or the opposite of a lone
-//! literal of a formula that the right side has the negation of: a state in which the clause is true
-//! is in such a set, or outside of such a formula. The literals of the sets whose only clause has at
-//! most four, and of negated formulas with at most eight clauses, are kept with the right side; on
-//! the left at most eight sets are looked at, each with at most eight clauses. This is looked for
-//! before what the negations ask is gathered, so that a union that grows by negations doesn't cost
-//! more than one that grows by formulas.
+//! literal of a formula that the right side has the negation of: a state in which the clause is
+//! true is in such a set, or outside of such a formula. The literals of the sets whose only clause
+//! has at most four, and of negated formulas with at most eight clauses, are kept with the right
+//! side; on the left at most eight sets are looked at, each with at most eight clauses. This is
+//! looked for before what the negations ask is gathered, so that a union that grows by negations
+//! doesn't cost more than one that grows by formulas.
 //!
 //! An action set is looked at from its newest part to its oldest, each part once, so a union that
 //! shares its parts costs its number of lines and not of paths. A list of actions that rises is
@@ -107,8 +107,9 @@
 //! where the literals are that many themselves, with a sixteenth of the atoms for the flags; or,
 //! where several formulas are asked about positively, where they are more for each action than six
 //! and one for each of these formulas and of their clauses, but for the formula with the most,
-//! since the others are gone through anew for each action. Of several formulas that are asked
-//! about at both times the one is taken for which the least is looked at.
+//! since to ask about an action may be to go through the clauses of the others, above all of those
+//! that are asked about after it. Of several formulas that are asked about at both times the one is
+//! taken for which the least is looked at.
 //!
 //! Where that formula's clauses have at most two literals, all negative or all positive, are many
 //! beside the atoms and their words, as where they say which pairs of atoms are never reached, and

@@ -1,6 +1,7 @@
-//! The queries of a statement, one after the other: the query is built once, and only its action
-//! changes. So it is for families that keep nothing between queries, as diagrams and formulas in
-//! clauses do.
+//! The queries of a statement over listed states, one after the other: the query is built once, and
+//! only its action changes. Nothing is kept between them. Diagrams and formulas in clauses, of
+//! which one inquiry works out what serves all actions, have walks of their own (`node_walk`,
+//! `clausal_walk`).
 
 ghost use Rattle.std.specs.Prelude.{◌≡◌, IfOk, length, map};
 ghost use Rattle.hv_task.specs.Strips.{atoms};

@@ -57,8 +57,8 @@ pub(crate) struct KeptLeaves {
     pub leaves: Vec<Leaf>,
 }
 
-/// An intersection that was asked about before, and one formula for its leaves; none where they have
-/// none.
+/// An intersection that was asked about before, and one formula for its leaves; none where they
+/// have none.
 #[derive(Drop)]
 pub(crate) struct KeptJoint {
     pub root: usize,

@@ -126,8 +126,8 @@ fn note(order: &mut [u32], places: &mut [u32], place: usize, atom: usize)
 
 // Notes the atoms that fields name, from this place on, as far as the quick way goes: numbers of
 // other lengths are few, since each atom stands in an order once. The answer is the next place, and
-// what is left of the fields. It goes no further than there are 8 bytes for
-// each field, so that none has to be looked for.
+// what is left of the fields. It goes no further than there are 8 bytes for each field, so that
+// none has to be looked for.
 fn note_quickly<'a>(
     digits: &[u64; 512],
     fields: &'a [u8],

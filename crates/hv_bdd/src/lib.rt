@@ -24,9 +24,9 @@
 //! empty set has no place: with it there are as many tuples. The tuples of a query are swept place
 //! by place, and are given back once they have moved (`place_sweep.rt`). Where one ends, the search
 //! that keeps all of them follows, with a link from each tuple to the one before it, which gives
-//! the counterexample backwards, so no bits are stored (`reach.rt`). It follows, too, where too many
-//! tuples wait while others move, and later queries for the same operands begin with it then. That
-//! search alone serves `meets` and `covers`.
+//! the counterexample backwards, so no bits are stored (`reach.rt`). It follows, too, where too
+//! many tuples wait while others move, and later queries for the same operands begin with it then.
+//! That search alone serves `meets` and `covers`.
 #![tactic(auto)]
 
 pub mod asked;

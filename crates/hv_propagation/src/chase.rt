@@ -168,7 +168,7 @@ pub(crate) fn visit_all(
 
 // The place after this one. Where nothing was found out here, what follows is mostly known too, as
 // where each literal implies all that later ones do: then all are passed over at once beside which
-// stands a literal that is known to be true.
+// stands a literal that was found true.
 #[inline(always)]
 fn next_place(
     standing: &Standing<'_>,
@@ -188,8 +188,9 @@ fn next_place(
     place_of_other(standing, index + 1, effect, marks)
 }
 
-// The first place from this one on beside which stands no literal that is known to be true. It is
-// a loop of its own, which writes nothing.
+// The first place from this one on beside which stands no literal that was found true: by the
+// effect or on the trail, as what was known before isn't seen. It is a loop of its own, which
+// writes nothing.
 #[inline(never)]
 fn place_of_other(
     standing: &Standing<'_>,
@@ -210,7 +211,7 @@ fn place_of_other(
     index
 }
 
-// Whether a literal stands beside the one at this place that is known to be true.
+// Whether a literal stands beside the one at this place that was found true.
 #[inline(always)]
 fn is_true_beside(
     standing: &Standing<'_>,

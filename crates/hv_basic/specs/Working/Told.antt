@@ -58,7 +58,8 @@ HasOwn lines kept askings = (own : Asking) × Contains askings own × (own.after
     × IsOwn lines kept own.set
 
 -- the statement is true, by a set that its left side asks for, and at a cost within the budget
-pub record IsToldTrue (lines : List Line) (kept : Kept) (askings : List Asking) (budget : ℕ) : Type 0
+pub record IsToldTrue (lines : List Line) (kept : Kept) (askings : List Asking)
+    (budget : ℕ) : Type 0
   where
     pub affordable : IsWithinLimits kept askings budget
     pub one_family : AskOneFamily kept askings
