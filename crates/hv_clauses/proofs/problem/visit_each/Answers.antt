@@ -24,7 +24,8 @@ visit_operand-requires-clause-from g c =
 pub visit_operand-requires-clause-left : goal.visit_operand-requires-clause-left
 visit_operand-requires-clause-left g c =
     operand_left c.args.problem.now _ c.positive-positive.ensures.list
-    c.loop-operand.operand-index _ c.loop-operand-test.true c.loop-operand.marks c.args.from c.loop-operand.invariant.left
+    c.loop-operand.operand-index _ c.loop-operand-test.true c.loop-operand.marks c.args.from
+    c.loop-operand.invariant.left
 
 pub returns-then-not-visit_operand-clause-followed :
     goal.returns-then-not-visit_operand-clause-followed
