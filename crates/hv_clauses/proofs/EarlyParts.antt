@@ -1,19 +1,16 @@
 -- What is known before the action, whatever it is.
 use Rattle.std.proofs.Common.{◌≡◌, ℕ, ◌<◌, ◌≤◌, ◌∙◌, Bool, true, false, List, [], length, get_or}
-use Rattle.std.proofs.Common.{◌++◌, ◌∷◌, ◌+◌, None, Option, Some, inl, inr, slice_get}
-use Rattle.std.proofs.Common.{refl, sym, ap, arith, subst}
-use Rattle.std.proofs.lemmas.Bool.{cases_lt}
-use Rattle.std.proofs.lemmas.List.{get_or_default}
-use Rattle.std.proofs.lemmas.List.Elements.{All-contains, Contains-append_cases, Contains-append_left}
-use Rattle.std.proofs.lemmas.List.Elements.{Contains-get_or, Contains-push, Contains-push_cases}
+use Rattle.std.proofs.Common.{Option, Some, slice_get}
+use Rattle.std.proofs.Common.{refl, sym, ap, subst}
+use Rattle.std.proofs.lemmas.List.Elements.{All-contains}
+use Rattle.std.proofs.lemmas.List.Elements.{Contains-get_or}
 use Rattle.std.specs.List.{All, Contains}
-use Rattle.hv_task.specs.Strips.{Strips, atoms}
+use Rattle.hv_task.specs.Strips.{Strips}
 use Rattle.hv_sets.specs.declared.literal.Literal.{Literal}
 use Rattle.hv_sets.specs.declared.operand.Operand.{Operand}
 use Rattle.hv_sets.specs.declared.operand.Which.{Which}
 use Rattle.hv_sets.specs.declared.operand.Which.TheVariants as W
-use Rattle.hv_sets.specs.declared.query.Query.{Query}
-use Rattle.hv_sets.specs.Query.{IsNamed, in_which}
+use Rattle.hv_sets.specs.Query.{in_which}
 use Rattle.hv_indexes.specs.Signed.{StandsAs}
 use Rattle.hv_clauses.specs.declared.literal_owners.ClauseOwners.{ClauseOwners}
 use Rattle.hv_clauses.specs.declared.opening.Begun.{Begun}
@@ -29,11 +26,11 @@ use Rattle.hv_clauses.specs.Working.Problem.{AreLeft, IsLeft, IsLeftOf}
 use Rattle.hv_clauses.specs.Working.Start.{HoldInEach, IsBasedOn}
 use Rattle.hv_propagation.specs.Chase.{IsFollowed}
 use Rattle.hv_propagation.specs.Effect.{late}
-use Rattle.hv_propagation.specs.Marks.{Agrees, over}
+use Rattle.hv_propagation.specs.Marks.{over}
 use Rattle.hv_propagation.specs.Trail.{Grows, Knowledge, marked, marks_of}
 use Rattle.hv_propagation.proofs.Chasing.{kept_earlier}
 use Rattle.hv_propagation.proofs.Marked.{over-nil}
-use Rattle.hv_propagation.proofs.Trailed.{known-replicate, length-marked}
+use Rattle.hv_propagation.proofs.Trailed.{length-marked}
 use Rattle.hv_clauses.proofs.Problems.{left_grown}
 
 -- an operand that is asked about before the action is seen through no effect

@@ -11,7 +11,6 @@ use Rattle.std.proofs.lemmas.List.Elements.{All-contains, Contains-append_cases}
 use Rattle.std.proofs.lemmas.List.Elements.{Contains-append_left, Contains-append_right}
 use Rattle.std.proofs.lemmas.List.Elements.{Contains-get_or, Contains-push_cases}
 use Rattle.std.proofs.lemmas.List.Folds.{Any-from_list_any, list_any_at}
-use Rattle.std.specs.Bool.{Decides}
 use Rattle.std.specs.List.{Contains}
 use Rattle.hv_sets.specs.declared.cursor.Cursor.{Cursor}
 use Rattle.hv_sets.specs.declared.literal.Literal.{Literal}
