@@ -317,6 +317,66 @@ def two_sets_before(each, listed=False):
     return row
 
 
+def pairs_apart(lines, count, step):
+    """A formula of so many clauses: of two atoms in each, one is false."""
+    pairs = ["-%d -%d 0" % (n + 1, count + (n + step) % count + 1) for n in range(count)]
+    return lines.set("h %d " % count + " ".join(pairs))
+
+
+def chain_before(folder, percent):
+    """A chain of formulas before two actions, which forces an atom, and a formula after them."""
+    count, lines = 200 * percent, Lines()
+    chain = [lines.set("h 1 1 0")]
+    chain += [lines.set("h 1 -%d %d 0", n, n + 1) for n in range(1, count)]
+    before = lines.set("p %d 0", lines.fold("i", chain))
+    both = lines.set("i %d %d", before, lines.set("h 1 -%d 0", count + 5))
+    lines.know("s %d %d b2", both, lines.set("h 1 %d 0", count))
+    two = [((), (count + 1,), (count + 2,))] * 2
+    return count, checked(folder, task(folder, count + 10, [0], [1], two), lines.text)
+
+
+def refuted_list(folder, percent):
+    """A clause that each action's precondition makes false, beside a formula of many clauses, and
+    one of as many after the actions."""
+    size, count = 40 * percent, 1600 * percent
+    lines, first = Lines([all_but_the_last(count)]), 2 * size + 1
+    small = lines.set("h 1 -%d -%d 0", first + 1, first + 2)
+    before = lines.set("p %d 0", lines.set("i %d %d", small, pairs_apart(lines, size, 0)))
+    both = lines.set("i %d %d", before, pairs_apart(lines, size, 1))
+    lines.know("s %d %d b2", both, lines.set("h 1 -%d 0", 2 * size + 10))
+    actions = [((first, first + 1), (first + 2 + n % 5,), ()) for n in range(count)]
+    return count, checked(folder, task(folder, 2 * size + 20, [0], [1], actions), lines.text)
+
+
+def refuted_lists_of_three(folder, percent):
+    """The same clause beside two formulas of many clauses, all before three actions, which many
+    statements are about."""
+    size, count = 40 * percent, 200 * percent
+    lines, first = Lines(["b 3 0 1 2"]), 2 * size + 1
+    sets = [lines.set("h 1 -%d -%d 0", first + 1, first + 2)]
+    sets += [pairs_apart(lines, size, step) for step in (0, 1)]
+    before = lines.set("p %d 0", lines.fold("i", sets))
+    rights = [lines.set("h 1 -%d 0", 2 * size + end) for end in (10, 11)]
+    for number in range(count):
+        lines.know("s %d %d b2", before, rights[number % 2])
+    actions = [((first, first + 1), (first + 2 + n,), ()) for n in range(3)] + [((), (0,), ())] * 3
+    return count, checked(folder, task(folder, 2 * size + 20, [0], [1], actions), lines.text)
+
+
+def lists_of_three(folder, percent):
+    """A formula of many clauses before three actions, and one clause after them, which many
+    statements are about."""
+    size, count = 40 * percent, 400 * percent
+    lines = Lines(["b 3 0 1 2"])
+    before = lines.set("p %d 0", pairs_apart(lines, size, 0))
+    both = lines.set("i %d %d", before, lines.set("h 1 -%d 0", 2 * size + 1))
+    rights = [lines.set("h 1 -%d -%d 0", 2 * size + 1, 2 * size + end) for end in (10, 11)]
+    for number in range(count):
+        lines.know("s %d %d b2", both, rights[number % 2])
+    actions = [((), (2 * size + 3 + n,), ()) for n in range(3)] + [((), (0,), ())] * 3
+    return count, checked(folder, task(folder, 2 * size + 20, [0], [1], actions), lines.text)
+
+
 def start_before(folder, percent):
     """The initial state before the actions, and a formula."""
     atoms, lines = 80 * percent, Lines()
