@@ -85,7 +85,8 @@ module _ (p q : ProblemState) (action : Option ℕ) (turned : q ≡ turned_to p 
       (opened_at p action q.effect opening k opened)
 
   -- what is answered of it is the answer that is asked for
-  pub answered : (budget : ℕ) (v : InquiryState) → inquiry_of p budget ≡ v → (finding : Finding) (found : List Bool)
+  pub answered : (budget : ℕ) (v : InquiryState) → inquiry_of p budget ≡ v → (finding : Finding)
+      (found : List Bool)
       → IsAnswer finding (budget < choices q) (width q)
       (is_clash q.task (tests_of (formulas q)) q.query) found
       → IsAnswer finding (ClausesPass v.task (sizes_of (formula_at v.store))

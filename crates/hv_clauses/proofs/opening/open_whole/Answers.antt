@@ -43,7 +43,8 @@ returns-then-not-start_all-clause-opened g c =
     let wide = wide_started (width p) c.in-Some.start.roots c.start_over.new.self at in
     let hold = hold_started p c.in-Some.start.roots c.start_over.new.self started.follows at in
     never_whole p c.requires.early c.start_all.new.marks
-    (none_then p c.start_over.new.self c.start_all.new.marks wide hold c.if-not-start_all.ensures.followed)
+    (none_then p c.start_over.new.self c.start_all.new.marks wide hold
+    c.if-not-start_all.ensures.followed)
 
 pub returns-then-not-start_all-clause-wide : goal.returns-then-not-start_all-clause-wide
 returns-then-not-start_all-clause-wide g c =
@@ -68,7 +69,8 @@ returns-in_default-close_upto-clause-opened g c =
     let hold = hold_started p c.in-Some.start.roots c.start_over.new.self started.follows at in
     let first = c.if-not-start_all.ensures.followed in
     never_whole p c.requires.early c.close_upto.new.marks
-    (none_then p c.start_all.new.marks c.close_upto.new.marks (ap length first.roots ∙ wide) (hold_then p c.start_over.new.self c.start_all.new.marks true wide hold first)
+    (none_then p c.start_all.new.marks c.close_upto.new.marks (ap length first.roots ∙ wide)
+    (hold_then p c.start_over.new.self c.start_all.new.marks true wide hold first)
     (subst (λ b. IsFollowed (InEach p) c.start_all.new.marks c.close_upto.new.marks b)
     (ap is_some c.in_default-close_upto.is) c.close_upto.ensures.followed))
 
@@ -98,9 +100,11 @@ returns-then-not-close-clause-opened g c =
     let first = c.if-not-start_all.ensures.followed in
     let second = c.close_upto.ensures.followed in
     never_whole p c.requires.early c.close.new.marks
-    (none_then p c.close_upto.new.marks c.close.new.marks (ap length second.roots ∙ (ap length first.roots ∙ wide))
+    (none_then p c.close_upto.new.marks c.close.new.marks (ap length second.roots ∙ (ap length
+    first.roots ∙ wide))
     (hold_then p c.start_all.new.marks c.close_upto.new.marks (is_some c.close_upto.result)
-    (ap length first.roots ∙ wide) (hold_then p c.start_over.new.self c.start_all.new.marks true wide hold first) second)
+    (ap length first.roots ∙ wide) (hold_then p c.start_over.new.self c.start_all.new.marks true
+    wide hold first) second)
     (subst (λ (x : ProblemState). IsFollowed (InEach x) c.close_upto.new.marks c.close.new.marks
     false) c.list_owners.ensures c.if-not-close.ensures.followed))
 
@@ -124,9 +128,11 @@ returns-clause-opened g c =
     let second = c.close_upto.ensures.followed in
     let new = c.close.new.marks in
     closed_whole p c.requires.early new
-    (hold_then p c.close_upto.new.marks c.close.new.marks true (ap length second.roots ∙ (ap length first.roots ∙ wide))
+    (hold_then p c.close_upto.new.marks c.close.new.marks true (ap length second.roots ∙ (ap length
+    first.roots ∙ wide))
     (hold_then p c.start_all.new.marks c.close_upto.new.marks (is_some c.close_upto.result)
-    (ap length first.roots ∙ wide) (hold_then p c.start_over.new.self c.start_all.new.marks true wide hold first) second)
+    (ap length first.roots ∙ wide) (hold_then p c.start_over.new.self c.start_all.new.marks true
+    wide hold first) second)
     (subst (λ (x : ProblemState). IsFollowed (InEach x) c.close_upto.new.marks new true)
     c.list_owners.ensures c.if-not-close.ensures.followed))
     (subst (λ (x : ProblemState). AreLeft x new (length new.trail)) c.list_owners.ensures

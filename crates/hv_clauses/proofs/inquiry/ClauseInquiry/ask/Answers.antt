@@ -64,7 +64,8 @@ pub returns-then-searched-clause-answer : goal.returns-then-searched-clause-answ
 returns-then-searched-clause-answer g c =
     let s = c.self.inside in
     let q = c.opened-self-inside.new.problem in
-    let turned = turned_same s.problem c.turn_to.new.self q c.args.action c.opened-self-inside.ensures.same
+    let turned = turned_same s.problem c.turn_to.new.self q c.args.action
+    c.opened-self-inside.ensures.same
     c.turn_to.ensures.turned in
     clash_answered s.problem q c.args.action turned s.budget c.args.self.now c.self.view_is
     (within_turned s.problem q c.args.action turned s.budget s.means
@@ -76,7 +77,8 @@ pub returns-clause-answer : goal.returns-clause-answer
 returns-clause-answer g c =
     let s = c.self.inside in
     let q = c.opened-self-inside.new.problem in
-    let turned = turned_same s.problem c.turn_to.new.self q c.args.action c.opened-self-inside.ensures.same
+    let turned = turned_same s.problem c.turn_to.new.self q c.args.action
+    c.opened-self-inside.ensures.same
     c.turn_to.ensures.turned in
     empty_answered s.problem q c.args.action turned s.budget c.args.self.now c.self.view_is
     (within_turned s.problem q c.args.action turned s.budget s.means
@@ -134,7 +136,8 @@ invariant_of-self-2 g c =
       subst (λ (x : ProblemState). IsPosed x) (sym same) c.turn_to.ensures.posed,
       means_within_turned s.problem q c.args.action turned s.budget s.means c.self.invariant.1,
       c.search-searched.ensures.wide ∙ sym (ap width c.search-searched.ensures.same),
-      subst (λ (x : ProblemState). IsOpened x c.opened-self-inside.result c.search-searched.new.marks)
+      subst (λ (x : ProblemState). IsOpened x c.opened-self-inside.result
+      c.search-searched.new.marks)
           (sym c.search-searched.ensures.same) c.search-searched.ensures.opened,
     )
 
@@ -148,7 +151,8 @@ invariant_of-self-then-searched g c =
       subst (λ (x : ProblemState). IsPosed x) (sym same) c.turn_to.ensures.posed,
       means_within_turned s.problem q c.args.action turned s.budget s.means c.self.invariant.1,
       c.search-searched.ensures.wide ∙ sym (ap width c.search-searched.ensures.same),
-      subst (λ (x : ProblemState). IsOpened x c.opened-self-inside.result c.search-searched.new.marks)
+      subst (λ (x : ProblemState). IsOpened x c.opened-self-inside.result
+      c.search-searched.new.marks)
           (sym c.search-searched.ensures.same) c.search-searched.ensures.opened,
     )
 
