@@ -17,7 +17,8 @@ ask-requires-clause-action g c =
     let a : Option ℕ = get_or c.args.actions.now c.loop-action.action-index None in
     subst (λ (task : Strips). IfSome a (λ at. at < length task.actions))
     (sym c.loop-action.invariant.task)
-    (c.requires.below c.loop-action.action-index a (slice_get-get_or c.args.actions.now c.loop-action.action-index None
+    (c.requires.below c.loop-action.action-index a (slice_get-get_or c.args.actions.now
+    c.loop-action.action-index None
     c.loop-action-test.true))
 
 pub ask-requires-clause-state : goal.ask-requires-clause-state
@@ -32,16 +33,22 @@ returns-in-Over-clause-answer g c =
       first_at (λ q. ClausesPass c.args.case.now.task.now
           (sizes_of (formula_at c.args.sets.now)) q c.args.case.now.budget)
           (is_clash c.args.case.now.task.now (tests_of (formula_at c.args.sets.now)))
-          (atoms c.args.case.now.task.now) c.args.query.now c.args.actions.now c.loop-action.action-index a
-          c.loop-action.invariant.settled (slice_get-get_or c.args.actions.now c.loop-action.action-index None
+          (atoms c.args.case.now.task.now) c.args.query.now c.args.actions.now
+          c.loop-action.action-index a
+          c.loop-action.invariant.settled (slice_get-get_or c.args.actions.now
+          c.loop-action.action-index None
           c.loop-action-test.true),
       over_here (λ q. ClausesPass c.args.case.now.task.now
           (sizes_of (formula_at c.args.sets.now)) q c.args.case.now.budget)
           (is_clash c.args.case.now.task.now (tests_of (formula_at c.args.sets.now)))
-          (atoms c.args.case.now.task.now) (with_action c.args.query.now a) (with_action c.args.query.now a) refl c.ask.new.state c.ask.result (clause_answer_here a c.ask.result c.ask.new.state c.loop-action.inquiry
+          (atoms c.args.case.now.task.now) (with_action c.args.query.now a) (with_action
+          c.args.query.now a) refl c.ask.new.state c.ask.result (clause_answer_here a c.ask.result
+          c.ask.new.state c.loop-action.inquiry
           c.args.case.now.task.now c.args.sets.now c.args.query.now c.args.case.now.budget
-          c.loop-action.invariant.task c.loop-action.invariant.store c.loop-action.invariant.positive
-          c.loop-action.invariant.negative c.loop-action.invariant.budget c.ask.ensures.answer) c.in-Over.is,
+          c.loop-action.invariant.task c.loop-action.invariant.store
+          c.loop-action.invariant.positive
+          c.loop-action.invariant.negative c.loop-action.invariant.budget c.ask.ensures.answer)
+          c.in-Over.is,
     )
 
 pub returns-in-Clash-clause-answer : goal.returns-in-Clash-clause-answer
@@ -50,17 +57,22 @@ returns-in-Clash-clause-answer g c =
     let found = clash_here (λ q. ClausesPass c.args.case.now.task.now
     (sizes_of (formula_at c.args.sets.now)) q c.args.case.now.budget)
     (is_clash c.args.case.now.task.now (tests_of (formula_at c.args.sets.now)))
-    (atoms c.args.case.now.task.now) (with_action c.args.query.now a) (with_action c.args.query.now a) refl c.ask.new.state c.ask.result (clause_answer_here a c.ask.result c.ask.new.state c.loop-action.inquiry
+    (atoms c.args.case.now.task.now) (with_action c.args.query.now a) (with_action c.args.query.now
+    a) refl c.ask.new.state c.ask.result (clause_answer_here a c.ask.result c.ask.new.state
+    c.loop-action.inquiry
     c.args.case.now.task.now c.args.sets.now c.args.query.now c.args.case.now.budget
     c.loop-action.invariant.task c.loop-action.invariant.store c.loop-action.invariant.positive
-    c.loop-action.invariant.negative c.loop-action.invariant.budget c.ask.ensures.answer) c.in-Clash.is in
+    c.loop-action.invariant.negative c.loop-action.invariant.budget c.ask.ensures.answer)
+    c.in-Clash.is in
     let same : c.in_ok-found-in-Clash.found ≡ c.ask.new.state = c.in_ok-found-in-Clash.ensures in (
       with_action c.args.query.now a,
       first_at (λ q. ClausesPass c.args.case.now.task.now
           (sizes_of (formula_at c.args.sets.now)) q c.args.case.now.budget)
           (is_clash c.args.case.now.task.now (tests_of (formula_at c.args.sets.now)))
-          (atoms c.args.case.now.task.now) c.args.query.now c.args.actions.now c.loop-action.action-index a
-          c.loop-action.invariant.settled (slice_get-get_or c.args.actions.now c.loop-action.action-index None
+          (atoms c.args.case.now.task.now) c.args.query.now c.args.actions.now
+          c.loop-action.action-index a
+          c.loop-action.invariant.settled (slice_get-get_or c.args.actions.now
+          c.loop-action.action-index None
           c.loop-action-test.true),
       found.0,
       (
@@ -89,16 +101,22 @@ loop-action-preserved g c =
           settled_more (λ q. ClausesPass c.args.case.now.task.now
           (sizes_of (formula_at c.args.sets.now)) q c.args.case.now.budget)
           (is_clash c.args.case.now.task.now (tests_of (formula_at c.args.sets.now)))
-          (atoms c.args.case.now.task.now) c.args.query.now c.args.actions.now c.loop-action.action-index a
-          c.loop-action.invariant.settled (slice_get-get_or c.args.actions.now c.loop-action.action-index None
+          (atoms c.args.case.now.task.now) c.args.query.now c.args.actions.now
+          c.loop-action.action-index a
+          c.loop-action.invariant.settled (slice_get-get_or c.args.actions.now
+          c.loop-action.action-index None
           c.loop-action-test.true)
           (settled_here (λ q. ClausesPass c.args.case.now.task.now
           (sizes_of (formula_at c.args.sets.now)) q c.args.case.now.budget)
           (is_clash c.args.case.now.task.now (tests_of (formula_at c.args.sets.now)))
-          (atoms c.args.case.now.task.now) (with_action c.args.query.now a) (with_action c.args.query.now a) refl c.ask.new.state c.ask.result (clause_answer_here a c.ask.result c.ask.new.state c.loop-action.inquiry
+          (atoms c.args.case.now.task.now) (with_action c.args.query.now a) (with_action
+          c.args.query.now a) refl c.ask.new.state c.ask.result (clause_answer_here a c.ask.result
+          c.ask.new.state c.loop-action.inquiry
           c.args.case.now.task.now c.args.sets.now c.args.query.now c.args.case.now.budget
-          c.loop-action.invariant.task c.loop-action.invariant.store c.loop-action.invariant.positive
-          c.loop-action.invariant.negative c.loop-action.invariant.budget c.ask.ensures.answer) c.in-Empty.is);
+          c.loop-action.invariant.task c.loop-action.invariant.store
+          c.loop-action.invariant.positive
+          c.loop-action.invariant.negative c.loop-action.invariant.budget c.ask.ensures.answer)
+          c.in-Empty.is);
     }
 
 pub returns-clause-answer : goal.returns-clause-answer

@@ -56,7 +56,8 @@ loop-set-preserved g c =
           (subst (λ n. AreClauses n c.clauses.result.now)
           (ap (λ (f : FormulaState). f.atoms) same ∙ stored.wide) c.clauses.ensures.below);
       kind =
-          all_put g.K.ClauseKind.is_of c.loop-set.all c.clauses.result.now _ c.in_ok-put_clauses.ensures
+          all_put g.K.ClauseKind.is_of c.loop-set.all c.clauses.result.now _
+          c.in_ok-put_clauses.ensures
           c.loop-set.invariant.kind c.clauses.ensures.kind;
     }
 

@@ -24,7 +24,8 @@ returns c =
     IfOk-weaker c.joint_of.result
     (λ found. IfSome found (IsJointOf (lines_in c.args.case.now) c.deref-5.result.now))
     (λ found. IfSome found (IsJointFor (lines_in c.args.case.now) c.args.own.now.root))
-    (λ found some. IfSome_then found some (joint_stands (lines_in c.args.case.now) c.args.own.now c.requires c.deref.result.now
+    (λ found some. IfSome_then found some (joint_stands (lines_in c.args.case.now) c.args.own.now
+    c.requires c.deref.result.now
     c.deref.ensures.value c.new-askings.result.items c.gather.new.into.items
     c.new-askings.ensures.items c.in_ok-gather.ensures.gathered c.in_ok-gather.field-0
     c.in_ok-gather.ensures.others c.in-None.is c.deref-2.result.now c.deref-2.ensures.value
