@@ -69,9 +69,11 @@ pub returns-in-Closed-clause-wide : goal.returns-in-Closed-clause-wide
 returns-in-Closed-clause-wide g c =
     let same = undone_same c.args.marks.now c.search_from-searched.new.marks c.undo.new.self
     c.search_from-searched.ensures.grown
-    (c.undo.ensures ∙ ap (λ n. let z : Knowledge = record
-    { roots = c.search_from-searched.new.marks.roots; trail = take n
-    c.search_from-searched.new.marks.trail }
+    (c.undo.ensures ∙ ap (λ n. let z : Knowledge = record {
+      roots = c.search_from-searched.new.marks.roots;
+      trail = take n
+          c.search_from-searched.new.marks.trail;
+    }
     in z) c.len-point.ensures.len) in
     ap (λ (k : Knowledge). length k.roots) same ∙ c.requires.wide
 
@@ -79,9 +81,11 @@ pub returns-in-Closed-clause-opened : goal.returns-in-Closed-clause-opened
 returns-in-Closed-clause-opened g c =
     let same = undone_same c.args.marks.now c.search_from-searched.new.marks c.undo.new.self
     c.search_from-searched.ensures.grown
-    (c.undo.ensures ∙ ap (λ n. let z : Knowledge = record
-    { roots = c.search_from-searched.new.marks.roots; trail = take n
-    c.search_from-searched.new.marks.trail }
+    (c.undo.ensures ∙ ap (λ n. let z : Knowledge = record {
+      roots = c.search_from-searched.new.marks.roots;
+      trail = take n
+          c.search_from-searched.new.marks.trail;
+    }
     in z) c.len-point.ensures.len) in
     subst (λ (k : Knowledge). IsOpened c.args.problem.now c.args.opening k) (sym same)
     c.requires.opened

@@ -137,7 +137,7 @@ invariant_of-self-2 g c =
       means_within_turned s.problem q c.args.action turned s.budget s.means c.self.invariant.1,
       c.search-searched.ensures.wide ∙ sym (ap width c.search-searched.ensures.same),
       subst (λ (x : ProblemState). IsOpened x c.opened-self-inside.result
-      c.search-searched.new.marks)
+          c.search-searched.new.marks)
           (sym c.search-searched.ensures.same) c.search-searched.ensures.opened,
     )
 
@@ -152,7 +152,7 @@ invariant_of-self-then-searched g c =
       means_within_turned s.problem q c.args.action turned s.budget s.means c.self.invariant.1,
       c.search-searched.ensures.wide ∙ sym (ap width c.search-searched.ensures.same),
       subst (λ (x : ProblemState). IsOpened x c.opened-self-inside.result
-      c.search-searched.new.marks)
+          c.search-searched.new.marks)
           (sym c.search-searched.ensures.same) c.search-searched.ensures.opened,
     )
 
