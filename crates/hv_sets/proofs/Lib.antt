@@ -3,3 +3,4 @@ pub mod Listed
 pub mod Named
 pub mod Pieces
 pub mod Placed
+pub mod Short

@@ -76,7 +76,8 @@ pub ends-end : {A : Type 0} (items : List A) (from : ℕ) (ends : List ℕ) (end
 ends-end items from [] end at ended = (omega (arith, ended), omega arith)
 ends-end items from (next ∷ ends) end at ended = (ended.0, ends-end items next ends end at ended.1)
 
-last_end-push : (from : ℕ) (ends : List ℕ) (end : ℕ) → last_end from (ends ++ end ∷ []) ≡ end
+-- the last end of ends that one more follows is that one
+pub last_end-push : (from : ℕ) (ends : List ℕ) (end : ℕ) → last_end from (ends ++ end ∷ []) ≡ end
 last_end-push from [] end = refl
 last_end-push from (next ∷ ends) end = last_end-push next ends end
 

@@ -60,7 +60,15 @@ impl<T: Copy> Flat<T> {
         items.extend_from_slice(parts.items)?;
         let mut ends = Vec::with_capacity(alloc, parts.ends.len())?;
         ends.extend_from_slice(parts.ends)?;
-        Ok(Flat { items, ends })
+        Ok(Flat::from_parts(items, ends))
+    }
+
+    /// The pieces of these items with these ends.
+    pub(crate) fn from_parts(items: Vec<T>, ends: Vec<u32>) -> Flat<T>
+        requires { EndWithin items.items 0 ends.items }
+        ensures { result ≡ gathered items.items ends.items }
+    {
+        Flat { items, ends }
     }
 
     /// Its items, and where its pieces end.
@@ -121,6 +129,14 @@ impl<T: Copy> Flat<T> {
     {
         self.items.reserve(items)?;
         self.ends.reserve(pieces)
+    }
+
+    /// The items of the piece at a place from 0.
+    pub(crate) fn get(&self, place: usize) -> &[T]
+        requires { place < length self.now.whole }
+        ensures { slice_get self.now.whole place ≡ Some result.now }
+    {
+        piece_at(&self.items, &self.ends, place)
     }
 
     /// How many pieces there are.

@@ -16,33 +16,31 @@ ghost use Rattle.std.specs.List.Sorted.{IsStrictlyIncreasing};
 ghost use Rattle.hv_task.specs.State.{AreBelow};
 
 use crate::flat::Flat;
-use crate::shared_pieces::SharedPieces;
+use crate::listed_state::ListedState;
+use crate::state_pieces::StatePieces;
 use hv_task::AtomList;
 use std::alloc::{AllocError, Global};
 use std::marker::Model;
-
-/// A shared list of states has at most so many atoms in the value itself.
-const FEW_ATOMS: usize = 8;
 
 /// A list of states, each by the atoms that it holds, which rise.
 #[derive(Drop)]
 pub struct StateList {
     alloc: Global,
-    pieces: SharedPieces<u32, FEW_ATOMS>,
+    pieces: StatePieces,
 }
 
 impl Model for StateList {
     ghost use Rattle.std.specs.Prelude.{◌≡◌, ℕ, List, []};
     ghost use Rattle.std.specs.List.{All};
     ghost use Rattle.std.specs.List.Sorted.{IsStrictlyIncreasing};
-    ghost use Rattle.hv_sets.specs.Working.SharedPieces.{held_pieces};
+    ghost use Rattle.hv_sets.specs.Working.KeptStates.{AreFit, held_states};
 
     ghost Value = { List (List ℕ) };
 
-    ghost view = { λ l. (held_pieces l.pieces).whole };
+    ghost view = { λ l. (held_states l.pieces).whole };
 
-    ghost invariant = { λ l. ((held_pieces l.pieces).begun ≡ [])
-        × All IsStrictlyIncreasing (held_pieces l.pieces).whole };
+    ghost invariant = { λ l. ((held_states l.pieces).begun ≡ [])
+        × All IsStrictlyIncreasing (held_states l.pieces).whole × AreFit l.pieces };
 }
 
 impl StateList {
@@ -52,7 +50,7 @@ impl StateList {
     {
         StateList {
             alloc,
-            pieces: SharedPieces::Alone(Flat::new(alloc)),
+            pieces: StatePieces::of(Flat::new(alloc)),
         }
     }
 
@@ -113,11 +111,11 @@ impl StateList {
         self.len() == 0
     }
 
-    /// The atoms of the state at a place from 0, rising.
-    pub fn get(&self, place: usize) -> &[u32]
+    /// The state at a place from 0.
+    pub fn get(&self, place: usize) -> ListedState<'_>
         requires { place < length self.now }
-        ensures state { slice_get self.now place ≡ Some result.now }
-        ensures rises { IsStrictlyIncreasing result.now }
+        ensures state { slice_get self.now place ≡ Some result }
+        ensures rises { IsStrictlyIncreasing result }
     {
         self.pieces.get(place)
     }
@@ -206,7 +204,7 @@ impl StateListBuilder {
         let StateListBuilder { alloc, pieces } = self;
         StateList {
             alloc,
-            pieces: SharedPieces::Alone(pieces),
+            pieces: StatePieces::of(pieces),
         }
     }
 }

@@ -1,0 +1,39 @@
+-- How listed states are kept: in four bytes an atom or in one.
+use Rattle.std.specs.Prelude.{◌≤◌, ◌-◌, ℕ, List, [], ◌∷◌, length, ⊤}
+use Rattle.std.specs.List.{All}
+use Rattle.std.specs.Rc.{rc_value}
+use Rattle.hv_sets.specs.Gathered.{Gathered}
+use Rattle.hv_sets.specs.Working.SharedPieces.{held_pieces}
+use Rattle.hv_sets.specs.declared.listed_state.Kept.{Kept}
+use Rattle.hv_sets.specs.declared.listed_state.Kept.TheVariants as K
+use Rattle.hv_sets.specs.declared.state_pieces.StatePieces.{StatePieces}
+use Rattle.hv_sets.specs.declared.state_pieces.StatePieces.TheVariants as P
+
+-- the atoms of a state, each in four bytes or in one
+abbrev pub kept_atoms : Kept → List ℕ
+kept_atoms (K.Wide atoms) = atoms.now
+kept_atoms (K.Narrow atoms) = atoms.now
+
+-- a state of at most 64 atoms
+abbrev pub IsShort : List ℕ → Type 0
+IsShort atoms = length atoms ≤ 64
+
+-- only short states are kept in one byte an atom
+abbrev pub IsKept : Kept → Type 0
+IsKept (K.Wide atoms) = ⊤
+IsKept (K.Narrow atoms) = IsShort atoms.now
+
+-- no piece from this place on, with these ends, has more than 64 items
+abbrev pub AreShort : ℕ → List ℕ → Type 0
+AreShort from [] = ⊤
+AreShort from (end ∷ ends) = (end - from ≤ 64) × AreShort end ends
+
+-- the states of a list, however they are kept
+abbrev pub held_states : StatePieces → Gathered ℕ
+held_states (P.Wide pieces) = held_pieces pieces
+held_states (P.Narrow shared) = rc_value shared
+
+-- only short states are kept in one byte an atom
+abbrev pub AreFit : StatePieces → Type 0
+AreFit (P.Wide pieces) = ⊤
+AreFit (P.Narrow shared) = All IsShort (rc_value shared).whole

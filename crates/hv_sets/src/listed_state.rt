@@ -1,0 +1,111 @@
+//! Listed states as they are kept: by their atoms, each in four bytes or in one.
+
+ghost use Rattle.std.specs.Prelude.{◌≡◌, ◌≤◌, length, take};
+ghost use Rattle.std.specs.List.Sorted.{IsStrictlyIncreasing};
+
+use std::marker::Model;
+
+/// A state that is kept in bytes has at most so many atoms.
+pub(crate) const MOST_ATOMS: usize = 64;
+
+/// Space for the atoms of a listed state, for a caller that wants them as a slice.
+#[derive(Drop)]
+pub struct StateBuffer {
+    atoms: [u32; MOST_ATOMS],
+}
+
+impl StateBuffer {
+    /// Space that is free.
+    pub fn new() -> StateBuffer {
+        StateBuffer {
+            atoms: [0; MOST_ATOMS],
+        }
+    }
+}
+
+/// The atoms of a listed state, which rise.
+#[derive(Drop)]
+pub struct ListedState<'a> {
+    kept: Kept<'a>,
+}
+
+/// How they are kept.
+#[derive(Clone, Copy, Drop)]
+pub(crate) enum Kept<'a> {
+    /// Each in four bytes.
+    Wide(&'a [u32]),
+    /// At most 64 atoms, each in one byte.
+    Narrow(&'a [u8]),
+}
+
+impl<'a> Model for ListedState<'a> {
+    ghost use Rattle.std.specs.Prelude.{ℕ, List};
+    ghost use Rattle.std.specs.List.Sorted.{IsStrictlyIncreasing};
+    ghost use Rattle.hv_sets.specs.Working.KeptStates.{IsKept, kept_atoms};
+
+    ghost Value = { List ℕ };
+
+    ghost view = { λ s. kept_atoms s.kept };
+
+    ghost invariant = { λ s. IsStrictlyIncreasing (kept_atoms s.kept) × IsKept s.kept };
+}
+
+impl<'a> ListedState<'a> {
+    /// The state of these atoms.
+    pub(crate) fn wide(atoms: &'a [u32]) -> ListedState<'a>
+        requires { IsStrictlyIncreasing atoms.now }
+        ensures { result ≡ atoms.now }
+    {
+        ListedState {
+            kept: Kept::Wide(atoms),
+        }
+    }
+
+    /// The state of these atoms.
+    pub(crate) fn narrow(atoms: &'a [u8]) -> ListedState<'a>
+        requires rises { IsStrictlyIncreasing atoms.now }
+        requires few { length atoms.now ≤ 64 }
+        ensures { result ≡ atoms.now }
+    {
+        ListedState {
+            kept: Kept::Narrow(atoms),
+        }
+    }
+
+    /// How many atoms the state holds.
+    pub fn len(&self) -> usize
+        ensures { result ≡ length self.now }
+    {
+        match self.kept {
+            Kept::Wide(atoms) => atoms.len(),
+            Kept::Narrow(atoms) => atoms.len(),
+        }
+    }
+
+    /// The atoms as a slice, for which the buffer may give the space.
+    pub fn slice<'b>(self, buffer: &'b mut StateBuffer) -> &'b [u32]
+    where
+        'a: 'b,
+        ensures atoms { result.now ≡ self.entry }
+        ensures rises { IsStrictlyIncreasing result.now }
+    {
+        match self.kept {
+            Kept::Wide(atoms) => atoms,
+            Kept::Narrow(atoms) => {
+                widen(&mut buffer.atoms, atoms);
+                &buffer.atoms[..atoms.len()]
+            }
+        }
+    }
+}
+
+// Puts these atoms first in the space.
+fn widen(space: &mut [u32], atoms: &[u8])
+    requires { length atoms.now ≤ length space.old }
+    ensures atoms { take (length atoms.now) space.new ≡ atoms.now }
+    ensures length { length space.new ≡ length space.old }
+{
+    for (place, atom) in atoms.iter().enumerate() {
+        space[place] = *atom as u32;
+    }
+}
