@@ -29,7 +29,7 @@ use crate::denied::clashes_in_open;
 use crate::framed::{crossing, most_literals};
 use crate::picked::{put, put_row};
 use hv_lines::{Acts, FormulaFamily, Table};
-use hv_sets::{Operand, Query, StateList, Which};
+use hv_sets::{Operand, Query, StateBuffer, StateList, Which};
 use hv_task::{AtomList, AtomSet, Task};
 use std::alloc::{AllocError, Global};
 
@@ -269,8 +269,10 @@ fn applicable_by(
     let mut found = AtomSet::new(alloc);
     put(0, task.actions(), &mut found)?;
     put_row(&rows[task.atoms() as usize], task.actions(), &mut found)?;
+    let mut buffer = StateBuffer::new();
     for place in 0..states.len() {
-        put_rows(rows, states.get(place), task.actions(), &mut found)?;
+        let held = states.get(place).slice(&mut buffer);
+        put_rows(rows, held, task.actions(), &mut found)?;
     }
     let numbers = found.take(alloc)?;
     Ok(Some(numbers))
@@ -279,8 +281,9 @@ fn applicable_by(
 /// How many atoms the states have, and how many actions are in the rows of these.
 fn cost_of(rows: &[Vec<u32>], states: &StateList) -> usize {
     let mut cost: usize = 0;
+    let mut buffer = StateBuffer::new();
     for place in 0..states.len() {
-        for atom in states.get(place) {
+        for atom in states.get(place).slice(&mut buffer) {
             if let Some(row) = rows.get(*atom as usize) {
                 cost = cost.saturating_add(row.len()).saturating_add(1);
             }

@@ -11,7 +11,7 @@ ghost use Rattle.hv_lines.specs.Good.{IsKnown, NamesWithin};
 use hv_basic::is_of_its_family;
 use hv_bdd::Diagrams;
 use hv_lines::{Acts, Expr, Line, Statement, Table, Word};
-use hv_sets::{Clauses, Literal, StateList};
+use hv_sets::{Clauses, Literal, StateBuffer, StateList};
 use hv_task::Task;
 
 /// Whether the line's identifier is the number of earlier lines of its letter.
@@ -162,8 +162,9 @@ fn clause_is_below(count: u32, clause: &[Literal]) -> bool
 fn states_are_below(count: u32, states: &StateList) -> bool
     ensures { IsTrue result ↔ All (AreBelow count) states.now }
 {
+    let mut buffer = StateBuffer::new();
     for place in 0..states.len() {
-        if !are_below(count, states.get(place)) {
+        if !are_below(count, states.get(place).slice(&mut buffer)) {
             return false;
         }
     }

@@ -28,7 +28,8 @@ ghost use Rattle.hv_explicit.specs.Working.Laws as laws;
 use crate::holders::SomePlaces;
 use crate::sought::{ActionResult, Coded, ReadInOrder, SomeState, Sought};
 use crate::state_index::{StateIndex, firsts_in, held_in, index_of, is_in, lists_in, state_in};
-use hv_sets::{Cube, Cursor, Inside, Literal, Scratch, StateList, StateSet, Step};
+use hv_sets::{Cube, Cursor, Inside, ListedState, Literal, Scratch, StateBuffer, StateList, StateSet};
+use hv_sets::Step;
 use hv_task::{Action, Atoms, State, Task, names_atom};
 use std::alloc::{AllocError, Global};
 use std::marker::Model;
@@ -170,22 +171,22 @@ impl Explicit {
     }
 
     /// The atoms of the state at this place, rising.
-    pub(crate) fn atoms_at(&self, place: usize) -> &[u32]
+    pub(crate) fn atoms_at(&self, place: usize) -> ListedState<'_>
         requires { place < length self.now.states }
-        ensures atoms { result.now ≡ slice_index_or self.now.states place [] }
-        ensures below { AreBelow self.now.atoms result.now }
+        ensures atoms { result ≡ slice_index_or self.now.states place [] }
+        ensures below { AreBelow self.now.atoms result }
     {
         self.states.get(place)
     }
 
-    /// The state at this place.
-    pub(crate) fn at(&self, place: usize) -> SomeState<'_>
+    /// The state at this place, for which the buffer may give the space.
+    pub(crate) fn at<'a>(&'a self, place: usize, buffer: &'a mut StateBuffer) -> SomeState<'a>
         requires { place < length self.now.states }
         ensures atoms { state_atoms result ≡ slice_index_or self.now.states place [] }
         ensures below { AreBelow self.now.atoms (state_atoms result) }
         ensures few { IsOfFew self.now.atoms result }
     {
-        state_in(&self.index, &self.states, place, self.atoms)
+        state_in(&self.index, &self.states, place, self.atoms, buffer)
     }
 }
 
@@ -216,7 +217,9 @@ impl Inside for Explicit {
         if cursor.place >= self.states.len() as u64 {
             return Ok(Step::End);
         }
-        fill(cube, self.atoms, self.states.get(cursor.place as usize))?;
+        let mut buffer = StateBuffer::new();
+        let held = self.states.get(cursor.place as usize).slice(&mut buffer);
+        fill(cube, self.atoms, held)?;
         cursor.place += 1;
         Ok(Step::Cube)
     }
@@ -241,8 +244,9 @@ fn meets_some(states: &StateList, cube: &Cube, state: &mut State) -> bool
         cube.now state.new }
     ensures length { length state.new ≡ length state.old }
 {
+    let mut buffer = StateBuffer::new();
     for place in 0..states.len() {
-        state.hold(states.get(place));
+        state.hold(states.get(place).slice(&mut buffer));
         if cube.has(state) {
             return true;
         }

@@ -12,7 +12,7 @@ use crate::codes::BITS;
 use crate::places::Places;
 use crate::sought::{Coded, Sought};
 use crate::state_word::word_of_list;
-use hv_sets::StateList;
+use hv_sets::{StateBuffer, StateList};
 use std::alloc::{AllocError, Global};
 use std::hash::{DefaultHasher, Hasher};
 
@@ -70,8 +70,9 @@ pub(crate) fn firsts_of(alloc: Global, atoms: u32, states: &StateList) -> Result
 // A key that all listed states together give.
 fn key_of(states: &StateList) -> u64 {
     let mut hasher = DefaultHasher::new();
+    let mut buffer = StateBuffer::new();
     for place in 0..states.len() {
-        put_state(&mut hasher, states.get(place));
+        put_state(&mut hasher, states.get(place).slice(&mut buffer));
     }
     hasher.finish()
 }
@@ -127,7 +128,8 @@ fn enter(
         → IsIndex firsts.new.key firsts.new.codes firsts.new.places.items states.now) }
     ensures whole { hasty ≡ false → IfOk result (λ done. done ≡ true) }
 {
-    let held = Coded::new(firsts.key, states.get(place));
+    let mut buffer = StateBuffer::new();
+    let held = Coded::new(firsts.key, states.get(place).slice(&mut buffer));
     if look_up(states, firsts, held.code, &held) {
         return Ok(true);
     }
@@ -165,17 +167,23 @@ pub(crate) fn is_at<A: Sought>(states: &StateList, place: usize, held: &A) -> bo
     requires below { AreStates (2 ^ 32 - 1) states.now }
     ensures { IsTrue result ↔ IsSame (A.has held.now) (slice_index_or states.now place []) }
 {
-    held.is(states.get(place))
+    let mut buffer = StateBuffer::new();
+    held.is(states.get(place).slice(&mut buffer))
 }
 
-/// The state at a place, with its code.
-pub(crate) fn coded_state<'a>(states: &'a StateList, firsts: &Firsts, place: usize) -> Coded<'a>
+/// The state at a place, with its code; the buffer may give the space for its atoms.
+pub(crate) fn coded_state<'a>(
+    states: &'a StateList,
+    firsts: &Firsts,
+    place: usize,
+    buffer: &'a mut StateBuffer,
+) -> Coded<'a>
     requires place { place < length states.now }
     requires index { IsIndex firsts.now.key firsts.now.codes firsts.now.places.items states.now }
     ensures atoms { result.atoms.now ≡ slice_index_or states.now place [] }
     ensures key { result.key ≡ firsts.now.key }
 {
-    let atoms = states.get(place);
+    let atoms = states.get(place).slice(buffer);
     let Some(entry) = entry_of(firsts.places.as_slice(), place) else {
         return Coded::new(firsts.key, atoms);
     };
@@ -197,7 +205,10 @@ pub(crate) fn word_of_state(states: &StateList, firsts: &Firsts, place: usize) -
 {
     match entry_of(firsts.places.as_slice(), place) {
         Some(entry) => firsts.codes.get(entry),
-        None => word_of_list(states.get(place)),
+        None => {
+            let mut buffer = StateBuffer::new();
+            word_of_list(states.get(place).slice(&mut buffer))
+        }
     }
 }
 

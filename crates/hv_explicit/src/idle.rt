@@ -12,7 +12,7 @@ ghost use Rattle.hv_explicit.specs.Working.Search.{IsListedSearch, clashes_in};
 use crate::explicits::Explicits;
 use crate::near::names_each;
 use crate::sets_query::anchor_of;
-use hv_sets::{Query, StateList, Which};
+use hv_sets::{Query, StateBuffer, StateList, Which};
 use hv_task::{Action, Task};
 
 // So many states are looked at before the search is made.
@@ -51,8 +51,10 @@ fn applies_nowhere(states: &StateList, action: &Action, budget: u64) -> bool
     if states.len() > FEW || states.len() as u64 > budget {
         return false;
     }
+    let mut buffer = StateBuffer::new();
     for place in 0..states.len() {
-        if names_each(states.get(place), action.pre.as_slice()) {
+        let held = states.get(place).slice(&mut buffer);
+        if names_each(held, action.pre.as_slice()) {
             return false;
         }
     }

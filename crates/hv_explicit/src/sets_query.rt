@@ -44,7 +44,7 @@ use crate::near::names_each;
 use crate::results::is_left;
 use crate::sought::{ActionResult, Coded, SomeState, Sought};
 use crate::state_word::StateWord;
-use hv_sets::{Finding, Operand, Query, Which};
+use hv_sets::{Finding, Operand, Query, StateBuffer, Which};
 use hv_task::{Action, State, Task};
 use std::alloc::{AllocError, Global};
 use std::marker::Model;
@@ -306,10 +306,11 @@ impl SetsQuery<'_> {
         if set.len() as u64 > budget {
             return Finding::Over;
         }
+        let mut buffer = StateBuffer::new();
         for place in places {
-            let held = set.at(*place as usize);
+            let held = set.at(*place as usize, &mut buffer);
             if self.some_clashes(anchor, held) {
-                state.hold(set.atoms_at(*place as usize));
+                state.hold(set.atoms_at(*place as usize).slice(&mut buffer));
                 return Finding::Clash;
             }
         }

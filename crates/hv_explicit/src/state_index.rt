@@ -18,7 +18,7 @@ use crate::firsts::{Firsts, coded_state, first_key, firsts_of, is_at, look_up, w
 use crate::holders::{Holders, SomePlaces, holders_of, holding_all};
 use crate::sought::{Coded, SomeState, Sought};
 use crate::state_word::{StateWord, is_word, word_of_list};
-use hv_sets::StateList;
+use hv_sets::{StateBuffer, StateList};
 use std::alloc::{AllocError, Global};
 
 // So many states are gone through without a choice.
@@ -239,12 +239,13 @@ pub(crate) fn is_in<A: Sought>(
     is_word(word_in(index, states, place), held, atoms)
 }
 
-/// The state at this place; the task has so many atoms.
+/// The state at this place, for which the buffer may give the space; the task has so many atoms.
 pub(crate) fn state_in<'a>(
     index: &StateIndex,
     states: &'a StateList,
     place: usize,
     atoms: u32,
+    buffer: &'a mut StateBuffer,
 ) -> SomeState<'a>
     requires place { place < length states.now }
     requires of_task { AreStates atoms states.now }
@@ -254,7 +255,7 @@ pub(crate) fn state_in<'a>(
     ensures few { IsOfFew atoms result }
 {
     if atoms > 64 {
-        return SomeState::Listed(coded_in(index, states, place, atoms));
+        return SomeState::Listed(coded_in(index, states, place, atoms, buffer));
     }
     let bits = word_in(index, states, place);
     SomeState::Word(StateWord { bits })
@@ -272,26 +273,40 @@ fn word_in(index: &StateIndex, states: &StateList, place: usize) -> u64
         StateIndex::Many(many) if many.firsts.key == BITS => {
             word_of_state(states, &many.firsts, place)
         }
-        _ => word_of_list(states.get(place)),
+        _ => {
+            let mut buffer = StateBuffer::new();
+            word_of_list(states.get(place).slice(&mut buffer))
+        }
     }
 }
 
 // The state at this place, with its code.
-fn coded_in<'a>(index: &StateIndex, states: &'a StateList, place: usize, atoms: u32) -> Coded<'a>
+fn coded_in<'a>(
+    index: &StateIndex,
+    states: &'a StateList,
+    place: usize,
+    atoms: u32,
+    buffer: &'a mut StateBuffer,
+) -> Coded<'a>
     requires place { place < length states.now }
     requires index { IsStateIndex states.now index.now }
     ensures { result.atoms.now ≡ slice_index_or states.now place [] }
 {
     match index {
-        StateIndex::Pair(_) => coded_anew(states, place, first_key(atoms)),
-        StateIndex::Many(many) => coded_state(states, &many.firsts, place),
+        StateIndex::Pair(_) => coded_anew(states, place, first_key(atoms), buffer),
+        StateIndex::Many(many) => coded_state(states, &many.firsts, place, buffer),
     }
 }
 
 // The same, where no code is kept.
-fn coded_anew(states: &StateList, place: usize, key: u64) -> Coded<'_>
+fn coded_anew<'a>(
+    states: &'a StateList,
+    place: usize,
+    key: u64,
+    buffer: &'a mut StateBuffer,
+) -> Coded<'a>
     requires { place < length states.now }
     ensures { result.atoms.now ≡ slice_index_or states.now place [] }
 {
-    Coded::new(key, states.get(place))
+    Coded::new(key, states.get(place).slice(buffer))
 }

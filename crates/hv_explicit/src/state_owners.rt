@@ -23,6 +23,7 @@ use crate::explicit::Explicit;
 use crate::named_sets::NamedSets;
 use crate::places::Places;
 use crate::sought::{SomeState, Sought};
+use hv_sets::StateBuffer;
 use std::alloc::{AllocError, Global};
 
 // With so few sets none of their states is entered: to go through the sets is no dearer.
@@ -150,12 +151,14 @@ fn enter_set(
     if !owners.known || !tells_apart(owners.coding, set.key()) {
         return Ok(false);
     }
+    let mut buffer = StateBuffer::new();
     for place in set.firsts() {
         let entry = ListedAt {
             set: number,
             place: *place,
         };
-        if !enter_some(owners, sets, entry, set.at(*place as usize), set.atoms())? {
+        let state = set.at(*place as usize, &mut buffer);
+        if !enter_some(owners, sets, entry, state, set.atoms())? {
             return Ok(false);
         }
     }

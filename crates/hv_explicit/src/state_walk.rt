@@ -9,7 +9,7 @@ ghost use Rattle.hv_explicit.specs.Walked.{StandsAfter, last_atoms, path_at};
 
 use crate::explicit::Explicit;
 use hv_paths::{WalkStop, Walker};
-use hv_sets::StateList;
+use hv_sets::{StateBuffer, StateList};
 use hv_task::State;
 use std::alloc::{AllocError, Global};
 
@@ -80,23 +80,25 @@ fn stand_at(state: &mut State, states: &StateList, place: usize)
         (slice_index_or states.now place []) }
     ensures atoms { length state.new ≡ length state.old }
 {
-    let after = states.get(place);
+    let mut buffer = StateBuffer::new();
+    let after = states.get(place).slice(&mut buffer);
     if state.atoms() < WIDE {
         state.hold(after);
         return;
     }
-    change(state, last_of(states, place), after);
+    let mut earlier = StateBuffer::new();
+    change(state, last_of(states, place, &mut earlier), after);
 }
 
 // The atoms of the state that was taken last, where so many were taken; none before the first.
-fn last_of(states: &StateList, taken: usize) -> &[u32]
+fn last_of<'a>(states: &'a StateList, taken: usize, buffer: &'a mut StateBuffer) -> &'a [u32]
     requires { taken ≤ length states.now }
     ensures { result.now ≡ last_atoms states.now taken }
 {
     if taken == 0 {
         return &[];
     }
-    states.get(taken - 1)
+    states.get(taken - 1).slice(buffer)
 }
 
 // Makes the state of the one list that of the other; where the first has no more atoms than the

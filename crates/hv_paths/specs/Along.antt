@@ -60,5 +60,5 @@ IsCubeOfOne atoms cube one =
 abbrev pub IsStop : ℕ → List Literal → WalkStop → Type 0
 IsStop atoms cube (P.Cube literals) = (literals.now ≡ cube) × SpeakBelow atoms literals.now
 IsStop atoms cube (P.State held state) =
-    AreBelow atoms held.now × IsStateOf atoms state.now
-    × (state.now ≡ state_of atoms held.now) × IsCubeOfOne atoms cube state.now
+    AreBelow atoms held × IsStateOf atoms state.now
+    × (state.now ≡ state_of atoms held) × IsCubeOfOne atoms cube state.now

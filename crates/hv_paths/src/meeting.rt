@@ -14,7 +14,7 @@ ghost use Rattle.hv_paths.specs.Along.{IsBarren, MeetsSome};
 
 use crate::asker::Asker;
 use crate::walker::{WalkStop, Walker};
-use hv_sets::{Literal, Scratch};
+use hv_sets::{Literal, Scratch, StateBuffer};
 use hv_task::State;
 use std::alloc::{AllocError, Global};
 
@@ -74,6 +74,8 @@ fn stop_at<W: Walker, A: Asker>(
     match walk.stop() {
         WalkStop::Cube(path) => follow(alloc, path, kept, asked, scratch),
         WalkStop::State(held, state) => {
+            let mut buffer = StateBuffer::new();
+            let held = held.slice(&mut buffer);
             let yes = look(alloc, held, state, kept, asked, scratch)?;
             Ok(yes)
         }

@@ -10,7 +10,7 @@ ghost use Rattle.hv_proof_text.specs.Working.Writing.{KeepsFronts, with_fields};
 
 use hv_bytes::Text;
 use hv_lines::{Acts, Constant, Expr, Line, Statement, Table, Word};
-use hv_sets::{Clauses, Literal, StateList};
+use hv_sets::{Clauses, Literal, StateBuffer, StateList};
 use std::alloc::{AllocError, Global};
 
 /// The one spelling of the line, without LF.
@@ -199,8 +199,9 @@ fn push_states(text: &mut Text, states: &StateList) -> Result<(), AllocError>
     ensures ok { OnOk result (text.new ≡ with_fields text.old (flat_map state_fields states.now)) }
     ensures keeps { KeepsFronts text.old text.new }
 {
+    let mut buffer = StateBuffer::new();
     for place in 0..states.len() {
-        push_state(text, states.get(place))?;
+        push_state(text, states.get(place).slice(&mut buffer))?;
     }
     Ok(())
 }

@@ -5,7 +5,7 @@ ghost use Rattle.hv_replay.specs.Expanded.{expanded_in, expanded_states};
 ghost use Rattle.hv_replay.specs.Logs.{IsLog, LogEntry, StandsInLog};
 
 use crate::log::Log;
-use hv_sets::StateList;
+use hv_sets::{StateBuffer, StateList};
 use std::alloc::{AllocError, Global};
 
 /// The expanded states of a log, in its order.
@@ -38,7 +38,8 @@ pub(crate) fn put_expanded(
     if !log.expanded(place) {
         return Ok(());
     }
-    states.push_atoms(log.held(place))
+    let mut buffer = StateBuffer::new();
+    states.push_atoms(log.held(place).slice(&mut buffer))
 }
 
 /// Whether each entry is an expanded state.

@@ -9,6 +9,7 @@ ghost use Rattle.hv_replay.specs.declared.hole.ReplayFault.TheVariants as H;
 use crate::leading::set_of;
 use crate::log::Log;
 use crate::open::first_exit;
+use hv_sets::StateBuffer;
 use hv_task::{Task, names_all};
 use std::alloc::{AllocError, Global};
 use thiserror::Error;
@@ -79,7 +80,8 @@ fn is_goal_free(task: &Task, log: &Log, place: usize) -> bool
     if !log.expanded(place) {
         return true;
     }
-    !names_all(log.held(place), task.goal().as_slice())
+    let mut buffer = StateBuffer::new();
+    !names_all(log.held(place).slice(&mut buffer), task.goal().as_slice())
 }
 
 // The first place of an expanded state that holds the goal.

@@ -25,6 +25,7 @@ use crate::hole::{ReplayFault, follow, line_of};
 use crate::log::Log;
 use crate::pruned::push_pruned;
 use hv_lines::{Draft, Note, Pruner};
+use hv_sets::StateBuffer;
 use hv_task::{State, Task};
 use std::alloc::{AllocError, Global};
 
@@ -225,7 +226,9 @@ fn put_one(
     if log.expanded(place) {
         return Ok(true);
     }
-    put_state(alloc, task, log.held(place), writing, pruners)
+    let mut buffer = StateBuffer::new();
+    let held = log.held(place).slice(&mut buffer);
+    put_state(alloc, task, held, writing, pruners)
 }
 
 // Puts the lines of a pruned state last, where it is covered, and says whether it is.

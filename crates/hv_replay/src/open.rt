@@ -21,6 +21,7 @@ use crate::log::Log;
 use crate::origin::Origin;
 use crate::waiting::waiting;
 use hv_explicit::{Explicit, Explicits};
+use hv_sets::StateBuffer;
 use hv_task::{State, Task};
 use std::alloc::{AllocError, Global};
 
@@ -112,7 +113,8 @@ fn open_action(
     if !log.expanded(place) {
         return None;
     }
-    let held = log.held(place);
+    let mut buffer = StateBuffer::new();
+    let held = log.held(place).slice(&mut buffer);
     let slot = slot_of(held, asked.len());
     if has_expanded(log, asked[slot], held) {
         return None;
@@ -150,7 +152,8 @@ fn has_expanded(log: &Log, place: usize, held: &[u32]) -> bool
     if place >= log.len() || !log.expanded(place) {
         return false;
     }
-    log.held(place) == held
+    let mut buffer = StateBuffer::new();
+    log.held(place).slice(&mut buffer) == held
 }
 
 // The least action that leads from the state of these atoms to one that isn't listed. Those alone
