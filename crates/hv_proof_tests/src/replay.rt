@@ -7,6 +7,7 @@ use crate::tasks::{Change, robot, task_with};
 use hv_bytes::{MemoryShelf, SureShelf};
 use hv_lines::{Draft, Pruner};
 use hv_replay::{Log, LogFault, ReplayFault, read_log, replay};
+use hv_sets::StateBuffer;
 use hv_task::{State, Task};
 use std::alloc::{AllocError, Global};
 use std::test::Fail;
@@ -291,14 +292,23 @@ fn limits_of_a_log(rt: HostRuntime) -> Result<(), Fail> {
     Ok(())
 }
 
+// Whether the state of the entry at the place has just these atoms.
+fn is_state(log: &Log, place: usize, atoms: &[u32]) -> bool {
+    if place >= log.len() {
+        return false;
+    }
+    let mut buffer = StateBuffer::new();
+    log.state(place).slice(&mut buffer) == atoms
+}
+
 // Whether the entries of the log are an expanded state that holds atoms 0 and 2, and then the
 // pruned empty one.
 fn has_two_entries(log: &Log) -> bool {
     log.len() == 2
         && log.expanded(0)
         && !log.expanded(1)
-        && log.state(0) == [0, 2].as_slice()
-        && log.state(1).is_empty()
+        && is_state(log, 0, &[0, 2])
+        && is_state(log, 1, &[])
 }
 
 #[test]

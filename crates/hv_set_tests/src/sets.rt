@@ -3,7 +3,8 @@
 ghost use Rattle.std.specs.Prelude.{◌≡◌, [], OnOk};
 
 use hv_sets::{
-    Clause, Clauses, ClausesBuilder, Literal, Operand, Operands, StateList, StateListBuilder, Which,
+    Clause, Clauses, ClausesBuilder, Literal, Operand, Operands, StateBuffer, StateList,
+    StateListBuilder, Which,
 };
 use hv_task::AtomList;
 use std::alloc::{AllocError, Global};
@@ -123,11 +124,20 @@ fn one_state(alloc: Global) -> Result<StateList, AllocError> {
     states.share()
 }
 
+// Whether the state at the place has just these atoms.
+fn is_state(states: &StateList, place: usize, atoms: &[u32]) -> bool {
+    if place >= states.len() {
+        return false;
+    }
+    let mut buffer = StateBuffer::new();
+    states.get(place).slice(&mut buffer) == atoms
+}
+
 // Whether a copy of the one state stays where the list gets a further one.
 fn state_copy_stays(alloc: Global, states: &mut StateList) -> Result<bool, AllocError> {
     let copy = states.copy(alloc)?;
     states.push_atoms(&[1, 4])?;
-    Ok(states.len() == 2 && states.get(1) == [1, 4].as_slice() && copy.len() == 1)
+    Ok(states.len() == 2 && is_state(states, 1, &[1, 4]) && copy.len() == 1)
 }
 
 // The same of a list that is shared.
@@ -139,6 +149,37 @@ fn shared_state_copy_stays(alloc: Global) -> Result<bool, AllocError> {
 #[test]
 fn a_copy_of_shared_states_stays(rt: HostRuntime) -> Result<(), Fail> {
     assert!(rt; shared_state_copy_stays(rt.alloc())?);
+    Ok(())
+}
+
+// Two states of nine atoms below 256, as many as are kept in one byte each, and one that has a
+// greater one.
+const DENSE: [u32; 9] = [0, 1, 2, 3, 4, 5, 6, 7, 255];
+const OTHER: [u32; 9] = [1, 2, 3, 4, 5, 6, 7, 8, 9];
+const GREAT: [u32; 9] = [0, 1, 2, 3, 4, 5, 6, 7, 256];
+
+// A list of the first two, which shares them.
+fn dense_states(alloc: Global) -> Result<StateList, AllocError> {
+    let mut states = StateList::new(alloc);
+    states.push_atoms(&DENSE)?;
+    states.push_atoms(&OTHER)?;
+    states.share()
+}
+
+// Whether they are read as they were put in, also where the list gets a further one, and whether a
+// copy stays.
+fn dense_states_stay(alloc: Global) -> Result<bool, AllocError> {
+    let mut states = dense_states(alloc)?;
+    let copy = states.copy(alloc)?;
+    let are_read = is_state(&states, 0, &DENSE) && states.get(1).len() == 9;
+    states.push_atoms(&GREAT)?;
+    let are_more = states.len() == 3 && is_state(&states, 1, &OTHER) && is_state(&states, 2, &GREAT);
+    Ok(are_read && are_more && copy.len() == 2 && is_state(&copy, 0, &DENSE))
+}
+
+#[test]
+fn dense_states_are_read_as_they_were_put_in(rt: HostRuntime) -> Result<(), Fail> {
+    assert!(rt; dense_states_stay(rt.alloc())?);
     Ok(())
 }
 
@@ -179,9 +220,9 @@ fn gather_states(states: &mut StateListBuilder) -> Result<(), AllocError>
 // Whether the list has just these states.
 fn are_gathered_states(states: &StateList) -> bool {
     states.len() == 3
-        && states.get(0) == [1, 4].as_slice()
-        && states.get(1).is_empty()
-        && states.get(2) == [2].as_slice()
+        && is_state(states, 0, &[1, 4])
+        && states.get(1).len() == 0
+        && is_state(states, 2, &[2])
 }
 
 // Whether the three states are put together atom by atom.

@@ -1,12 +1,13 @@
 //! Lists of states.
 //!
 //! Listed states are in one list of atoms, with the end of each: a state of nine atoms takes 40
-//! bytes there, where a list of its own takes 32 and a block of 36 to 80. So `get` of a `StateList`
-//! and `Log::state` lend the atoms of a state as a slice, of which they promise that it rises, and
-//! not an `AtomList`, which stays the type in which one state is put together. The readers put
-//! atoms last one by one (`StateListBuilder`, as literals by `ClausesBuilder`), so a line of two
-//! million states takes no memory a state but its atoms and its end, and nothing is moved once it
-//! is read. Lists are shared as those of clauses are: of at most three states of at most eight atoms
+//! bytes there, where a list of its own takes 32 and a block of 36 to 80. Where a list is shared, and
+//! all its atoms are below 256, they are kept in one byte each: a state of 24 of 48 atoms takes 28
+//! bytes, and not 100. So `get` of a `StateList` and `Log::state` answer a `ListedState`, from which
+//! the atoms are taken as a slice that rises, and not an `AtomList`, which stays the type in which
+//! one state is put together. The readers put atoms last one by one (`StateListBuilder`, as literals
+//! by `ClausesBuilder`), so a line of two million states takes no memory a state but its atoms and
+//! its end. Lists are shared as those of clauses are: of at most three states of at most eight atoms
 //! in all each owner has its own.
 
 ghost use Rattle.std.specs.Prelude.{◌≡◌, ◌<◌, [], ◌∷◌, ◌++◌, ◌==◌, length, slice_get, IfOk, Some};
