@@ -205,11 +205,20 @@ pub(crate) fn word_of_state(states: &StateList, firsts: &Firsts, place: usize) -
 {
     match entry_of(firsts.places.as_slice(), place) {
         Some(entry) => firsts.codes.get(entry),
-        None => {
-            let mut buffer = StateBuffer::new();
-            word_of_list(states.get(place).slice(&mut buffer))
-        }
+        None => word_anew(states, place),
     }
+}
+
+/// The same, where no code is kept.
+#[inline(never)]
+pub(crate) fn word_anew(states: &StateList, place: usize) -> u64
+    requires place { place < length states.now }
+    requires below { AreStates 64 states.now }
+    requires rise { AreRising states.now }
+    ensures { word_atoms result ≡ slice_index_or states.now place [] }
+{
+    let mut buffer = StateBuffer::new();
+    word_of_list(states.get(place).slice(&mut buffer))
 }
 
 // The entry of a place, if it is found: without repeats before it it is the place itself.

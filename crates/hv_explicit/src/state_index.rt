@@ -14,10 +14,11 @@ ghost use Rattle.hv_explicit.specs.Working.SomeStates.{IsOfFew, state_atoms};
 ghost use Rattle.hv_explicit.specs.Working.Words.{word_atoms};
 
 use crate::codes::{BITS, is_exact};
-use crate::firsts::{Firsts, coded_state, first_key, firsts_of, is_at, look_up, word_of_state};
+use crate::firsts::{Firsts, coded_state, first_key, firsts_of, is_at, look_up, word_anew};
+use crate::firsts::word_of_state;
 use crate::holders::{Holders, SomePlaces, holders_of, holding_all};
 use crate::sought::{Coded, SomeState, Sought};
-use crate::state_word::{StateWord, is_word, word_of_list};
+use crate::state_word::{StateWord, is_word};
 use hv_sets::{StateBuffer, StateList};
 use std::alloc::{AllocError, Global};
 
@@ -273,10 +274,7 @@ fn word_in(index: &StateIndex, states: &StateList, place: usize) -> u64
         StateIndex::Many(many) if many.firsts.key == BITS => {
             word_of_state(states, &many.firsts, place)
         }
-        _ => {
-            let mut buffer = StateBuffer::new();
-            word_of_list(states.get(place).slice(&mut buffer))
-        }
+        _ => word_anew(states, place),
     }
 }
 

@@ -52,14 +52,26 @@ pub(crate) fn widened(alloc: Global, parts: Parts<'_, u8>) -> Result<Flat<u32>, 
 fn bytes_of(alloc: Global, items: &[u32]) -> Result<Option<Vec<u8>>, AllocError>
     ensures { IfOk result (λ found. IfSome found (λ bytes. bytes.items ≡ items.now)) }
 {
-    let mut bytes = Vec::with_capacity(alloc, items.len())?;
-    for item in items {
-        if *item > u32::from(u8::MAX) {
-            return Ok(None);
-        }
-        bytes.push(*item as u8)?;
+    let mut bytes = vec![in alloc; 0; items.len()]?;
+    if !put_bytes(bytes.as_mut_slice(), items) {
+        return Ok(None);
     }
     Ok(Some(bytes))
+}
+
+// Puts the items into as many bytes, if each fits.
+fn put_bytes(bytes: &mut [u8], items: &[u32]) -> bool
+    requires { length bytes.old ≡ length items.now }
+    ensures bytes { IsTrue result → bytes.new ≡ items.now }
+    ensures length { length bytes.new ≡ length bytes.old }
+{
+    for (place, item) in items.iter().enumerate() {
+        if *item > u32::from(u8::MAX) {
+            return false;
+        }
+        bytes[place] = *item as u8;
+    }
+    true
 }
 
 fn copy_of(alloc: Global, ends: &[u32]) -> Result<Vec<u32>, AllocError>

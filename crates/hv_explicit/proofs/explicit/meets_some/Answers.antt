@@ -1,4 +1,4 @@
-use Rattle.std.proofs.Common.{sym, ◌∙◌, ap, arith, length}
+use Rattle.std.proofs.Common.{sym, ◌∙◌, ap, arith, length, Some}
 use Rattle.std.proofs.lemmas.Option.{get_or_from_slice_get, slice_get_within}
 use Rattle.hv_task.specs.State.{state_of}
 use Rattle.hv_explicit.proofs.Listing.{found_meets, none_meets}
@@ -6,8 +6,8 @@ use Rattle.hv_explicit.proofs.explicit.meets_some.Goals as goal
 
 pub returns-then-has-clause-meets : goal.returns-then-has-clause-meets
 returns-then-has-clause-meets c =
-    let held = c.get.result.now in
-    let at = c.get.ensures.state in
+    let held = c.slice.result.now in
+    let at = (c.get.ensures.state ∙ ap Some (sym c.slice.ensures.atoms)) in
     found_meets (length c.args.state.now) c.args.states.now c.args.cube.now c.loop-place.place held
     c.hold.new.self (slice_get_within c.args.states.now c.loop-place.place held at)
     (sym (get_or_from_slice_get c.args.states.now c.loop-place.place held held at))

@@ -1,4 +1,5 @@
 use Rattle.std.proofs.Common.{◌≡◌, ℕ, [], List, arith, below_more, get_or, subst, sym}
+use Rattle.std.proofs.Common.{Some, ap, ◌∙◌}
 use Rattle.std.proofs.lemmas.Bool.{both_ways}
 use Rattle.std.proofs.lemmas.List.{get_or_default}
 use Rattle.std.proofs.lemmas.Option.{get_or_from_slice_get}
@@ -14,7 +15,7 @@ loop-place-preserved c =
     (λ all. both_ways c.names_each.result c.if-names_each.false
     (c.names_each.ensures.1
     (subst (λ (xs : List ℕ). All (λ p. Contains xs p) c.as_slice.result.now)
-    (get_or_from_slice_get states place c.get.result.now [] c.get.ensures.state)
+    (get_or_from_slice_get states place c.slice-held.result.now [] (c.get.ensures.state ∙ ap Some (sym c.slice-held.ensures.atoms)))
     (subst (λ (ys : List ℕ). All (λ p. Contains (get_or states place []) p) ys)
     (sym c.as_slice.ensures.items) all))))
 

@@ -27,7 +27,7 @@ loop-place-preserved c =
                 subst (λ d. IsEntered c.enter_some.new.owners c.args.number c.args.set.now.states
                 (first_at c.args.set.now.states c.firsts-place-items.result.now d)) same
                 (c.in_ok-enter_some.ensures.ok c.if-not-branch.false c.args.set.now.states within
-                (ap names_atom c.at.ensures.atoms))
+                (ap names_atom c.at-state.ensures.atoms))
           ];
     }
 

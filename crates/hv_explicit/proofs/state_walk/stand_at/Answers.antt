@@ -1,4 +1,4 @@
-use Rattle.std.proofs.Common.{◌≡◌, ◌∙◌, [], arith, length, get_or, sym, ap, subst}
+use Rattle.std.proofs.Common.{◌≡◌, ◌∙◌, [], arith, length, get_or, sym, ap, subst, Some}
 use Rattle.std.proofs.lemmas.Option.{get_or_from_slice_get}
 use Rattle.hv_task.specs.State.{AreBelow, state_of}
 use Rattle.hv_explicit.proofs.Walked.{last_below}
@@ -7,8 +7,8 @@ use Rattle.hv_explicit.proofs.state_walk.stand_at.Goals as goal
 pub hold-requires : goal.hold-requires
 hold-requires c =
     subst (λ xs. AreBelow (length c.args.state.now) xs)
-    (get_or_from_slice_get c.args.states.now c.args.place c.get-after.result.now []
-    c.get-after.ensures.state)
+    (get_or_from_slice_get c.args.states.now c.args.place c.slice-after.result.now []
+    (c.get.ensures.state ∙ ap Some (sym c.slice-after.ensures.atoms)))
     (c.requires.below c.args.place [] c.requires.place)
 
 pub change-requires-clause-before : goal.change-requires-clause-before
@@ -20,8 +20,8 @@ change-requires-clause-before c =
 pub change-requires-clause-after : goal.change-requires-clause-after
 change-requires-clause-after c =
     subst (λ xs. AreBelow (length c.args.state.now) xs)
-    (get_or_from_slice_get c.args.states.now c.args.place c.get-after.result.now []
-    c.get-after.ensures.state)
+    (get_or_from_slice_get c.args.states.now c.args.place c.slice-after.result.now []
+    (c.get.ensures.state ∙ ap Some (sym c.slice-after.ensures.atoms)))
     (c.requires.below c.args.place [] c.requires.place)
 
 pub change-requires-clause-is : goal.change-requires-clause-is
@@ -33,5 +33,5 @@ pub returns-clause-held : goal.returns-clause-held
 returns-clause-held c =
     c.change.ensures.held
     ∙ ap (state_of (length c.args.state.now))
-    (sym (get_or_from_slice_get c.args.states.now c.args.place c.get-after.result.now []
-    c.get-after.ensures.state))
+    (sym (get_or_from_slice_get c.args.states.now c.args.place c.slice-after.result.now []
+    (c.get.ensures.state ∙ ap Some (sym c.slice-after.ensures.atoms))))

@@ -28,18 +28,19 @@ some_clashes-requires-clause-anchor c =
 
 pub hold-requires : goal.hold-requires
 hold-requires c =
-    subst (λ (n : ℕ). AreBelow n c.atoms_at.result.now)
-    (c.requires.atoms ∙ sym c.loop-place.invariant.state) c.atoms_at.ensures.below
+    subst (λ (n : ℕ). AreBelow n c.slice.result.now)
+    (c.requires.atoms ∙ sym c.loop-place.invariant.state)
+    (subst (AreBelow c.args.set.now.atoms) (sym c.slice.ensures.atoms) c.atoms_at.ensures.below)
 
 pub returns-then-some_clashes : goal.returns-then-some_clashes
 returns-then-some_clashes c = (
   (let len = c.len.ensures in omega (arith, c.if-len-budget.false)),
   c.hold.ensures.atoms ∙ c.loop-place.invariant.state,
   ap (clashes_in c.args.self.now)
-      (c.hold.ensures.held ∙ ap (λ m. state_of m c.atoms_at.result.now)
+      (c.hold.ensures.held ∙ ap (λ m. state_of m c.slice.result.now)
       c.loop-place.invariant.state
       ∙ ap (state_of (atoms c.args.self.now.task))
-      (c.atoms_at.ensures.atoms ∙ sym c.at-held.ensures.atoms))
+      (c.slice.ensures.atoms ∙ c.atoms_at.ensures.atoms ∙ sym c.at-held.ensures.atoms))
       ∙ (sym c.some_clashes.ensures ∙ c.if-some_clashes.true),
 )
 

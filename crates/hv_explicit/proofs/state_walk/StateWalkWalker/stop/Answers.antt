@@ -8,7 +8,7 @@ pub returns : goal.returns
 returns c =
     let q = c.args.self.now in
     let states = c.states-states.result.now in
-    let held = c.get.result.now in
+    let held = c.get.result in
     let less : q.taken - 1 < length states =
     omega (arith, c.if-self-eq0.false, c.requires.few, ap length c.states-states.ensures.states) in
     let is : get_or states (q.taken - 1) [] ≡ held =
