@@ -1,4 +1,4 @@
-use Rattle.std.proofs.Common.{◌≡◌, ◌∙◌, [], arith, get_or, inl, inr, length, subst, sym}
+use Rattle.std.proofs.Common.{◌≡◌, ◌∙◌, Some, [], ap, arith, get_or, inl, inr, length, subst, sym}
 use Rattle.std.proofs.lemmas.List.{get_or_default}
 use Rattle.std.proofs.lemmas.Option.{get_or_from_slice_get}
 use Rattle.std.specs.List.{Contains}
@@ -38,9 +38,10 @@ loop-place-init c =
 pub put_rows-requires : goal.put_rows-requires
 put_rows-requires c =
     let size = c.requires.rows.0 in
-    let at = get_or_from_slice_get c.args.states.now c.loop-place.place c.get.result.now []
-    c.get.ensures.state in
-    below_more (atoms c.args.task.now) (length c.args.rows.now) c.get.result.now
+    let held = c.slice-held.result.now in
+    let at = get_or_from_slice_get c.args.states.now c.loop-place.place held []
+    (c.get.ensures.state ∙ ap Some (sym c.slice-held.ensures.atoms)) in
+    below_more (atoms c.args.task.now) (length c.args.rows.now) held
     (omega (arith, size))
     (subst (AreBelow (atoms c.args.task.now)) at
     (c.requires.states c.loop-place.place []
@@ -55,8 +56,8 @@ loop-place-preserved c =
       first = λ some. e.kept 0 (i.first some);
       past = λ k inside less. e.kept k (i.past k inside less);
       has = put_state_more c.args.rows.now c.args.states.now (length c.args.task.now.actions)
-          c.loop-place.place c.loop-place.found c.put_rows.new.found c.get.result.now
-          c.get.ensures.state e.kept
+          c.loop-place.place c.loop-place.found c.put_rows.new.found c.slice-held.result.now
+          (c.get.ensures.state ∙ ap Some (sym c.slice-held.ensures.atoms)) e.kept
           (λ p k has inside less. e.has p k has inside (omega (arith, less, count))) i.has;
       below = λ k h. elim (e.below k h) [
         | inl old ↦ i.below k old

@@ -18,7 +18,8 @@ pub returns : goal.returns
 returns c =
     let task = c.args.task.now in
     let log = c.args.log.now in
-    let held = c.held.result.now in
+    let held = c.slice.result.now in
+    let legal = subst (AreBelow log.atoms) (sym c.slice.ensures.atoms) c.held.ensures.legal.below in
     let yes : c.expanded.result ≡ true = search rules in
     let w = entry_there log c.args.place c.requires.place in
     let over = subst (λ xs. AreBelow log.atoms xs) c.goal.ensures.goal
@@ -28,5 +29,6 @@ returns c =
     c.names_all.ensures in
     goal_free task log c.args.place w.0 w.1 (sym (c.expanded.ensures w.0 w.1) ∙ yes)
     c.names_all.result
-    (holds_all log.atoms held task.goal c.held.ensures.legal.below over c.names_all.result tells
-    ∙ ap (λ h. is_goal task (state_of log.atoms h)) (c.held.ensures.stands w.0 w.1))
+    (holds_all log.atoms held task.goal legal over c.names_all.result tells
+    ∙ ap (λ h. is_goal task (state_of log.atoms h))
+    (c.slice.ensures.atoms ∙ c.held.ensures.stands w.0 w.1))

@@ -9,7 +9,8 @@ returns-clause-covered g c = λ entry at.
     covered_at c.put_state.result
     (λ held. AnyOf c.args.pruners.now (λ b. (goal.Pruner-dyn g (b.vtable, b.value)).covers b.value
     c.args.task.now (state_of (atoms c.args.task.now) held)))
-    c.held.result.now entry.state (entry.expanded ≡ false) (c.held.ensures.stands entry at)
+    c.slice-held.result.now entry.state (entry.expanded ≡ false)
+    (c.slice-held.ensures.atoms ∙ c.held.ensures.stands entry at)
     c.put_state.ensures.covered
 
 pub returns-clause-uncovered : goal.returns-clause-uncovered
@@ -18,6 +19,7 @@ returns-clause-uncovered g c = λ entry at.
     uncovered_at c.put_state.result
     (λ held. AnyOf c.args.pruners.now (λ b. (goal.Pruner-dyn g (b.vtable, b.value)).covers b.value
     c.args.task.now (state_of (atoms c.args.task.now) held)))
-    c.held.result.now entry.state (entry.expanded ≡ false) (c.held.ensures.stands entry at)
+    c.slice-held.result.now entry.state (entry.expanded ≡ false)
+    (c.slice-held.ensures.atoms ∙ c.held.ensures.stands entry at)
     (sym (c.expanded.ensures entry at) ∙ no)
     c.put_state.ensures.uncovered

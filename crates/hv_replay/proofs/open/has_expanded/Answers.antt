@@ -15,7 +15,7 @@ returns c = λ same.
       w.0,
       w.1,
       sym (c.expanded.ensures w.0 w.1) ∙ yes,
-      sym (c.held.ensures.stands w.0 w.1)
-          ∙ (slice_eq-Decides Decides-eqb c.held.result.now c.args.held.now c.eq.result
+      sym (c.slice.ensures.atoms ∙ c.held.ensures.stands w.0 w.1)
+          ∙ (slice_eq-Decides Decides-eqb c.slice.result.now c.args.held.now c.eq.result
           c.eq.ensures).0 same,
     )

@@ -22,23 +22,23 @@ returns-then-has_expanded-clause-open c =
     let slot = c.slot_of-slot.result in
     let less : slot < length c.args.asked.now.items = let e = c.slot_of-slot.ensures in
     let f = c.len.ensures in omega arith in
-    let found : HasExpanded log c.index.result.now c.held-held.result.now =
+    let found : HasExpanded log c.index.result.now c.slice-held.result.now =
     c.has_expanded.ensures yes in
-    leads_again c.args.task.now log c.index.result.now c.args.place c.held-held.result.now w.0
+    leads_again c.args.task.now log c.index.result.now c.args.place c.slice-held.result.now w.0
     found (subst (λ p. (action : ℕ) → LeadsOn c.args.task.now log p action)
     (sym c.index.ensures) (c.requires.lead slot c.index.result.now less)) w.1
-    (c.held-held.ensures.stands w.0 w.1)
+    (c.slice-held.ensures.atoms ∙ c.held.ensures.stands w.0 w.1)
 
 pub returns-in-Some-clause-open : goal.returns-in-Some-clause-open
 returns-in-Some-clause-open c =
     let task = c.args.task.now in
     let log = c.args.log.now in
-    let held = c.held-held.result.now in
+    let held = c.slice-held.result.now in
     let yes : c.expanded.result ≡ true = search rules in
     let w = entry_there log c.args.place c.requires.place in
     let same : state_of (atoms task) held ≡ state_in log w.0 =
     ap (λ n. state_of n held) (sym c.requires.atoms)
-    ∙ ap (state_of log.atoms) (c.held-held.ensures.stands w.0 w.1) in
+    ∙ ap (state_of log.atoms) (c.slice-held.ensures.atoms ∙ c.held.ensures.stands w.0 w.1) in
     first_from task log c.args.place w.0 w.1 c.args.index.now.listed.now c.requires.listed
     (sym (c.expanded.ensures w.0 w.1) ∙ yes) c.in-Some.action
     (subst (λ s. IsFirstWithout (StaysListed task c.args.index.now.listed.now s) c.in-Some.action) same
@@ -48,12 +48,12 @@ pub returns-in-None-clause-open : goal.returns-in-None-clause-open
 returns-in-None-clause-open c =
     let task = c.args.task.now in
     let log = c.args.log.now in
-    let held = c.held-held.result.now in
+    let held = c.slice-held.result.now in
     let yes : c.expanded.result ≡ true = search rules in
     let w = entry_there log c.args.place c.requires.place in
     let same : state_of (atoms task) held ≡ state_in log w.0 =
     ap (λ n. state_of n held) (sym c.requires.atoms)
-    ∙ ap (state_of log.atoms) (c.held-held.ensures.stands w.0 w.1) in
+    ∙ ap (state_of log.atoms) (c.slice-held.ensures.atoms ∙ c.held.ensures.stands w.0 w.1) in
     all_from task log c.args.place w.0 w.1 c.args.index.now.listed.now c.requires.listed
     (sym (c.expanded.ensures w.0 w.1) ∙ yes)
     (subst (λ s. (number : ℕ) → number < length task.actions
@@ -64,12 +64,12 @@ pub returns-in-None-clause-lead : goal.returns-in-None-clause-lead
 returns-in-None-clause-lead c =
     let task = c.args.task.now in
     let log = c.args.log.now in
-    let held = c.held-held.result.now in
+    let held = c.slice-held.result.now in
     let yes : c.expanded.result ≡ true = search rules in
     let w = entry_there log c.args.place c.requires.place in
     let same : state_of (atoms task) held ≡ state_in log w.0 =
     ap (λ n. state_of n held) (sym c.requires.atoms)
-    ∙ ap (state_of log.atoms) (c.held-held.ensures.stands w.0 w.1) in
+    ∙ ap (state_of log.atoms) (c.slice-held.ensures.atoms ∙ c.held.ensures.stands w.0 w.1) in
     let all = all_from task log c.args.place w.0 w.1 c.args.index.now.listed.now c.requires.listed
     (sym (c.expanded.ensures w.0 w.1) ∙ yes)
     (subst (λ s. (number : ℕ) → number < length task.actions

@@ -20,14 +20,14 @@ returns-clause-stands c = λ entry at.
     let here = subst (λ (l : SearchLog). slice_get l.entries c.args.place ≡ Some entry)
     (sym c.self.view_is) at in
     let there = c.get.ensures.state in
-    let same : ◌≡◌ {A = Option (List ℕ)} (Some c.get.result.now) (Some entry.state) =
+    let same : ◌≡◌ {A = Option (List ℕ)} (Some c.get.result) (Some entry.state) =
     sym there ∙ (entries_at s.expanded.items s.states c.args.place entry here).1 in
     cc
 
 pub returns-clause-legal : goal.returns-clause-legal
 returns-clause-legal c =
     let s = c.self.inside in
-    let held = c.get.result.now in
+    let held = c.get.result in
     let there = c.get.ensures.state in
     let sets = atom_sets s.atoms s.expanded.items s.states c.self.invariant.1
     c.self.invariant.0 in
