@@ -9,3 +9,4 @@ pub mod Paired
 pub mod Implying
 pub mod ImpliedRows
 pub mod Mated
+pub mod Screened

@@ -28,8 +28,9 @@ use Rattle.hv_indexes.specs.declared.rows.RowRange.{RowRange}
 use Rattle.hv_indexes.specs.declared.screens.Screen.{Screen}
 use Rattle.hv_indexes.specs.Places.{clause_at}
 use Rattle.hv_indexes.specs.Mates.{AreClusters, AreMates, IsCluster, IsPutUnder, IsPutUnderOwn}
-use Rattle.hv_indexes.specs.Mates.{IsScreened, cluster_places, AreTried}
-use Rattle.hv_indexes.specs.Working.Mates.{AreClustersUpto, ArePut, IsDue, IsPutBy, PutsCluster}
+use Rattle.hv_indexes.specs.Mates.{IsExact, IsScreened, cluster_places, AreTried}
+use Rattle.hv_indexes.specs.Working.Mates.{AreClustersUpto, ArePut, IsDecidedAs, IsDue}
+use Rattle.hv_indexes.specs.Working.Mates.{IsPutBy, PutsCluster}
 use Rattle.hv_indexes.specs.Rows.{AreCoded, AreHeads, IsPartOf, code, key_of, place_of_code}
 use Rattle.hv_indexes.proofs.Keyed.{code_is, key_of-code, number_of-code, row_from}
 use Rattle.hv_indexes.proofs.Truths.{clause_has, clauses_by, one_false}
@@ -208,6 +209,20 @@ module _ (clauses : List (List Literal)) (place : ℕ) (less : place < length cl
       ];
     }
 
+-- one screen more is exact, too
+exact_screens : (clauses : List (List Literal)) (screens : List Screen) (screen : Screen)
+    → ((k : ℕ) (d : Screen) → k < length screens → IsExact clauses (get_or screens k d))
+    → IsExact clauses screen → (k : ℕ) (d : Screen) → k < length (screens ++ screen ∷ [])
+    → IsExact clauses (get_or (screens ++ screen ∷ []) k d)
+exact_screens clauses screens screen all exact k d early =
+    let long = length_push screens screen in
+    elim (cases_lt k (length screens)) [
+      | inl before ↦ subst (IsExact clauses)
+          (sym (get_or_append_left screens (screen ∷ []) d k before)) (all k d before)
+      | inr late ↦ subst (IsExact clauses)
+          (sym (get_or_push screens screen d k (omega (arith, early, late, long)))) exact
+    ]
+
 module _ (clauses : List (List Literal)) (heads : List RowHead) (places : List ℕ) (at : ℕ)
     (old new : ClusterList) (is : AreClustersUpto clauses heads places at old)
     (longer : length old.screens.items ≤ length new.screens.items)
@@ -241,8 +256,11 @@ module _ (clauses : List (List Literal)) (heads : List RowHead) (places : List �
       → IsCluster clauses places new.screens.items cluster
       → ((codes : List ℕ) → AreHeads codes heads → length codes ≡ length places → (d : RowHead)
       → IsPartOf (get_or heads at d).key codes places (cluster_places places cluster))
+      → ((k : ℕ) (d : Screen) → k < length new.screens.items
+      → IsExact clauses (get_or new.screens.items k d))
       → AreClustersUpto clauses heads places (at + 1) new
-  clusters_more cluster put here part = record {
+  clusters_more cluster put here part exact = record {
+    exact = exact;
     size = ap length put ∙ (length_push old.clusters.items cluster ∙ ap (λ n. n + 1) is.size);
     each = λ j e early. elim (cases_lt j at) [
       | inl before ↦ subst (λ x. IsCluster clauses places new.screens.items x)
@@ -281,16 +299,20 @@ pub puts_cluster : (clauses : List (List Literal)) (heads : List RowHead) (place
     → range.from ≤ range.upto → range.upto ≤ length places
     → IfSome screen (λ s. (c : ℕ) → Contains (slice_range places range.from range.upto) c
     → IsScreened s (clause_at clauses c))
+    → IfSome screen (IsExact clauses)
     → ((codes : List ℕ) → AreHeads codes heads → length codes ≡ length places → (d : RowHead)
     → IsPartOf (get_or heads at d).key codes places (slice_range places range.from range.upto))
     → AreClustersUpto clauses heads places (at + 1) new
-puts_cluster clauses heads places at old new is range None (put, same) starts ends screened part =
+puts_cluster clauses heads places at old new is range None (put, same) starts ends screened exact
+    part =
     clusters_more clauses heads places at old new is
     (let e = ap length same in omega arith) (λ k d less. ap (λ xs. get_or xs k d) same)
     (record { range = range; screen = None }) put
     (record { starts = starts; ends = ends; screened = tt }) part
+    (subst (λ xs. (k : ℕ) (d : Screen) → k < length xs → IsExact clauses (get_or xs k d)) (sym same)
+    is.exact)
 puts_cluster clauses heads places at old new is range (Some screen) (put, more) starts ends screened
-    part =
+    exact part =
     let long : length new.screens.items ≡ length old.screens.items + 1 = ap length more
     ∙ length_push old.screens.items screen in
     clusters_more clauses heads places at old new is (omega arith)
@@ -308,6 +330,8 @@ puts_cluster clauses heads places at old new is range (Some screen) (put, more) 
             (screened c has),
       );
     }) part
+    (subst (λ xs. (k : ℕ) (d : Screen) → k < length xs → IsExact clauses (get_or xs k d)) (sym more)
+    (exact_screens clauses old.screens.items screen is.exact exact))
 
 -- the clauses of sorted codes are among the clauses
 pub places_inside : (codes sorted places : List ℕ) (n : ℕ) → places ≡ map place_of_code sorted
@@ -334,6 +358,7 @@ clusters_are clauses them rises inside are = record {
   size = are.size;
   inside = inside;
   each = are.each;
+  exact = are.exact;
 }
 
 -- what codes are of is put under their keys
@@ -563,3 +588,32 @@ cluster_screened clauses them state are speak at less cluster is k has screen sa
     → IsScreened (get_or them.list.screens.items j d) (clause_at clauses x)))) has own.screened in
     all (clause_at clauses c) (speak c [] in_clauses_of)
     (subst (λ s. IsScreened s (clause_at clauses c)) (sym same) (named.1 screen c within))
+
+-- a screen that is named is there
+screen_less : (screens : List Screen) (places : List ℕ) (clauses : List (List Literal))
+    (cluster : Cluster) (k : ℕ) → cluster.screen ≡ Some k → IsCluster clauses places screens cluster
+    → k < length screens
+screen_less screens places clauses cluster k has own =
+    let named = subst (λ o. IfSome o (λ j. (j < length screens)
+    × ((d : Screen) (x : ℕ) → Contains (cluster_places places cluster) x
+    → IsScreened (get_or screens j d) (clause_at clauses x)))) has own.screened in
+    named.0
+
+-- where the screen of a cluster decides, it is so
+pub cluster_decided : (clauses : List (List Literal)) (them : Clusters) (state : List Bool)
+    → AreClusters clauses them → All (SpeakBelow (length state)) clauses → (at : ℕ)
+    → at < length them.heads.items → (cluster : Cluster)
+    → cluster ≡ get_or them.list.clusters.items at cluster → (k : ℕ) → cluster.screen ≡ Some k
+    → (screen : Screen) → screen ≡ get_or them.list.screens.items k screen → (r : Bool)
+    → IsDecidedAs r screen state
+    → (e : Cluster)
+    → AreTried r clauses (Contains (cluster_places them.places.items
+    (get_or them.list.clusters.items at e))) state
+cluster_decided clauses them state are speak at less cluster is k has screen same true all e =
+    cluster_screened clauses them state are speak at less cluster is k has screen same all e
+cluster_decided clauses them state are speak at less cluster is k has screen same false one e =
+    let own = subst (λ x. IsCluster clauses them.places.items them.list.screens.items x) (sym is)
+    (are.each at cluster less) in
+    one clauses (subst (IsExact clauses) (sym same)
+    (are.exact k screen
+    (screen_less them.list.screens.items them.places.items clauses cluster k has own)))

@@ -1,7 +1,7 @@
 -- What is tried of a formula for a listed state.
 use Rattle.std.specs.Prelude.{◌≡◌, ◌<◌, ◌⊎◌, ℕ, Bool, true, false, List, length, slice_index_or}
 use Rattle.std.specs.Prelude.{◌≤◌, IfSome, slice_range}
-use Rattle.std.specs.List.{Contains}
+use Rattle.std.specs.List.{All, Contains}
 use Rattle.hv_task.specs.State.{has_atom}
 use Rattle.hv_sets.specs.declared.literal.Literal.{Literal}
 use Rattle.hv_sets.specs.Truth.{in_clause}
@@ -9,6 +9,7 @@ use Rattle.hv_indexes.specs.declared.clusters.Cluster.{Cluster}
 use Rattle.hv_indexes.specs.declared.clusters.Clusters.{Clusters}
 use Rattle.hv_indexes.specs.declared.rows.RowHead.{RowHead}
 use Rattle.hv_indexes.specs.declared.screens.Screen.{Screen}
+use Rattle.hv_indexes.specs.Implied.{IsEither}
 use Rattle.hv_indexes.specs.Places.{clause_at}
 use Rattle.std.specs.List.Sorted.{IsNonDecreasingBy}
 use Rattle.hv_indexes.specs.declared.mates.Mates.{Mates}
@@ -26,6 +27,14 @@ IsScreened screen clause =
     (q : ℕ) × Contains clause (record { atom = q; positive = screen.sign })
     × (has_atom screen.flags q ≡ screen.sign)
 
+-- where the screen is exact, each of its literals is in some clause that has no literal but this
+-- and the own one
+abbrev pub IsExact : List (List Literal) → Screen → Type 0
+IsExact clauses screen =
+    screen.exact ≡ true → (q : ℕ) → q < length screen.flags → has_atom screen.flags q ≡ screen.sign
+    → (c : ℕ) × (c < length clauses)
+    × All (IsEither screen.own (record { atom = q; positive = screen.sign })) (clause_at clauses c)
+
 -- the places of the clauses of a cluster
 abbrev pub cluster_places : List ℕ → Cluster → List ℕ
 cluster_places places cluster = slice_range places cluster.range.from cluster.range.upto
@@ -40,7 +49,8 @@ pub record IsCluster (clauses : List (List Literal)) (places : List ℕ) (screen
       × ((d : Screen) (c : ℕ) → Contains (cluster_places places cluster) c
       → IsScreened (slice_index_or screens k d) (clause_at clauses c)))
 
--- for each head, by rising atoms, there is a cluster of some of these clauses
+-- for each head, by rising atoms, there is a cluster of some of these clauses, and exact screens
+-- are of these clauses
 pub record AreClusters (clauses : List (List Literal)) (them : Clusters) : Type 0 where
   pub rises : IsNonDecreasingBy (λ h. h.key) them.heads.items
   pub size : length them.list.clusters.items ≡ length them.heads.items
@@ -49,6 +59,8 @@ pub record AreClusters (clauses : List (List Literal)) (them : Clusters) : Type 
   pub each : (j : ℕ) (e : Cluster) → j < length them.heads.items
       → IsCluster clauses them.places.items them.list.screens.items
       (slice_index_or them.list.clusters.items j e)
+  pub exact : (k : ℕ) (d : Screen) → k < length them.list.screens.items
+      → IsExact clauses (slice_index_or them.list.screens.items k d)
 
 -- the clause of this number is put under the atom: there is a cluster of the atom, and the clause
 -- is in it

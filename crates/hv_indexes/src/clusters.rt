@@ -1,7 +1,8 @@
 //! Clauses in clusters: those of a cluster have one literal in common, under which they are put.
 //!
 //! A cluster is tried where its literal is false. It has a screen where that takes little room
-//! beside its clauses: where the screen is true in the state, all of them are.
+//! beside its clauses: where the screen is true in the state, all of them are, and where they have
+//! two literals each, the screen alone decides.
 
 ghost use Rattle.std.specs.Prelude.{◌≡◌, ◌<◌, ◌^◌, ℕ, [], IfOk, OnOk};
 ghost use Rattle.std.specs.Prelude.{length, slice_index_or, true, false};
@@ -10,10 +11,12 @@ ghost use Rattle.hv_task.specs.State.{AreBelow, has_atom, state_of};
 ghost use Rattle.hv_sets.specs.Cubes.{SpeakBelow};
 ghost use Rattle.hv_sets.specs.Truth.{in_clause};
 ghost use Rattle.hv_indexes.specs.Mates.{AreClusters, IsPutUnder, cluster_places, AreTried};
-ghost use Rattle.hv_indexes.specs.Working.Mates.{AreClustersUpto, IsDue, PutsCluster};
+ghost use Rattle.hv_indexes.specs.Working.Mates.{AreClustersUpto, HoldsAll, IsDue};
+ghost use Rattle.hv_indexes.specs.Working.Mates.{PutsCluster};
 ghost use Rattle.hv_indexes.specs.Rows.{HasHeads, code, place_of_code};
 ghost use Rattle.hv_indexes.specs.declared.clusters.Cluster.{Cluster};
 
+use crate::counted::sort_by_keys;
 use crate::rows::{self, RowHead, RowRange};
 use crate::screens::{self, Screen};
 use hv_sets::{Clauses, Literal};
@@ -58,10 +61,12 @@ impl Clusters {
         }
     }
 
-    // Those of the clauses of these codes: of the atom and the clause's place.
+    // Those of the clauses of these codes: of the atom of a literal of this sign, under which the
+    // clause is put, and the clause's place.
     pub(crate) fn of(
         alloc: Global,
         atoms: u32,
+        sign: bool,
         clauses: &Clauses,
         codes: Vec<usize>,
     ) -> Result<Clusters, AllocError>
@@ -71,10 +76,10 @@ impl Clusters {
             → Contains codes.items (code p c) → IsPutUnder them p c) }
     {
         let mut codes = codes;
-        rows::sort(&mut codes);
+        sort_by_keys(alloc, &mut codes)?;
         let heads = rows::heads_of(alloc, &codes)?;
         let places = rows::numbers_of(alloc, &codes)?;
-        let list = ClusterList::of(alloc, atoms, clauses, &heads, &places)?;
+        let list = ClusterList::of(alloc, atoms, sign, clauses, &heads, &places)?;
         Ok(Clusters {
             heads,
             places,
@@ -142,8 +147,8 @@ impl Clusters {
     {
         let cluster = self.list.clusters[at];
         if let Some(screen) = cluster.screen {
-            if self.list.screens[screen].is_true_in(state) {
-                return true;
+            if let Some(decided) = self.list.screens[screen].decides(state) {
+                return decided;
             }
         }
         let range = cluster.range;
@@ -153,7 +158,8 @@ impl Clusters {
 
 impl ClusterList {
     fn new(alloc: Global) -> ClusterList
-        ensures { result.clusters.items ≡ [] }
+        ensures clusters { result.clusters.items ≡ [] }
+        ensures screens { result.screens.items ≡ [] }
     {
         ClusterList {
             clusters: Vec::new(alloc),
@@ -165,6 +171,7 @@ impl ClusterList {
     fn of(
         alloc: Global,
         atoms: u32,
+        sign: bool,
         clauses: &Clauses,
         heads: &[RowHead],
         places: &[u32],
@@ -180,7 +187,11 @@ impl ClusterList {
         for at in 0..heads.len() {
             let range = rows::part_of(heads, places.len(), heads[at].key);
             let part = &places[range.from..range.upto];
-            let screen = Screen::of(alloc, clauses, part, heads[at].key, &full)?;
+            let own = Literal {
+                atom: heads[at].key,
+                positive: sign,
+            };
+            let screen = Screen::of(alloc, clauses, part, own, &full)?;
             list.put(range, screen)?;
         }
         Ok(list)
@@ -229,7 +240,9 @@ fn atoms_of_screens(heads: &[RowHead], count: usize, atoms: u32) -> u32 {
 }
 
 // A state that holds so many atoms, all that there are.
-fn full_state(alloc: Global, atoms: u32) -> Result<State, AllocError> {
+fn full_state(alloc: Global, atoms: u32) -> Result<State, AllocError>
+    ensures { IfOk result HoldsAll }
+{
     let mut full = State::empty(alloc, atoms)?;
     for atom in 0..atoms {
         full.set(atom, true);

@@ -1,18 +1,21 @@
 //! Literals of one sign, of which each of some clauses has one: a state in which all of them are
 //! true is in each of these clauses.
 //!
-//! They are flags by atom, so a state is compared with them 64 atoms a word. A screen needn't be
-//! exact: where one of its literals is false the clauses are tried, so of it one direction alone is
-//! proved.
+//! They are flags by atom, so a state is compared with them 64 atoms a word. A screen is exact where
+//! each of the clauses has its literal and the own one under which all of them are put, and no
+//! other: then some clause is false where one of the literals is false, and the own one too, and
+//! none is tried. Where a screen isn't exact, and one of its literals is false, they are tried.
 
 ghost use Rattle.std.specs.Prelude.{◌≡◌, ◌<◌, ℕ, List, IfOk, IfSome, length, slice_index_or, true};
-ghost use Rattle.std.specs.List.{Contains};
+ghost use Rattle.std.specs.Prelude.{false, not};
+ghost use Rattle.std.specs.List.{All, Contains};
 ghost use Rattle.hv_task.specs.State.{has_atom};
-ghost use Rattle.hv_sets.specs.declared.literal.Literal.{Literal};
-ghost use Rattle.hv_sets.specs.Cubes.{SpeakBelow};
-ghost use Rattle.hv_sets.specs.Truth.{in_clause};
+ghost use Rattle.hv_sets.specs.declared.literal.Literal.{Literal as LiteralOf};
+ghost use Rattle.hv_sets.specs.Truth.{in_literal};
+ghost use Rattle.hv_indexes.specs.Implied.{IsEither};
 ghost use Rattle.hv_indexes.specs.Places.{clause_at};
-ghost use Rattle.hv_indexes.specs.Mates.{IsScreened};
+ghost use Rattle.hv_indexes.specs.Mates.{IsExact, IsScreened};
+ghost use Rattle.hv_indexes.specs.Working.Mates.{HoldsAll, IsDecidedAs};
 
 use hv_sets::{Clauses, Literal};
 use hv_task::State;
@@ -21,60 +24,72 @@ use std::alloc::{AllocError, Global};
 // A screen has at most so many words for each of its clauses.
 const WORDS: usize = 8;
 
-/// Literals of one sign: those of the atoms whose flags are this sign.
+/// Literals of one sign: those of the atoms whose flags are this sign. It is exact where each of
+/// them is in a clause that has the own literal besides, and no other.
 #[derive(Drop)]
 pub(crate) struct Screen {
+    pub own: Literal,
     pub sign: bool,
+    pub exact: bool,
     pub flags: State,
 }
 
 impl Screen {
-    /// A screen for the clauses at these places, if that pays and each has a literal of one sign
-    /// whose atom isn't this one. `full` is a state that holds all atoms.
+    /// A screen for the clauses at these places, which are put under the own literal, if that pays
+    /// and each has a literal of one sign of another atom. `full` is a state that holds all atoms.
     pub(crate) fn of(
         alloc: Global,
         clauses: &Clauses,
         places: &[u32],
-        own: u32,
+        own: Literal,
         full: &State,
     ) -> Result<Option<Screen>, AllocError>
-        requires { (k : ℕ) → k < length places.now
+        requires places { (k : ℕ) → k < length places.now
             → slice_index_or places.now k 0 < length clauses.now }
-        ensures { IfOk result (λ found. IfSome found (λ screen. (c : ℕ) → Contains places.now c
-            → IsScreened screen (clause_at clauses.now c))) }
+        requires full { HoldsAll full.now }
+        ensures screened { IfOk result (λ found. IfSome found (λ screen. (c : ℕ)
+            → Contains places.now c → IsScreened screen (clause_at clauses.now c))) }
+        ensures exact { IfOk result (λ found. IfSome found (IsExact clauses.now)) }
     {
         if !pays(full.atoms(), places.len()) {
             return Ok(None);
         }
-        let mut negative = Screen::empty(alloc, false, full)?;
-        if negative.put_all(clauses, places, own) {
+        let mut negative = Screen::empty(alloc, own, false, full)?;
+        if negative.put_all(clauses, places) {
             return Ok(Some(negative));
         }
-        let mut positive = Screen::empty(alloc, true, full)?;
-        if positive.put_all(clauses, places, own) {
+        let mut positive = Screen::empty(alloc, own, true, full)?;
+        if positive.put_all(clauses, places) {
             return Ok(Some(positive));
         }
         Ok(None)
     }
 
     // A screen without literals.
-    fn empty(alloc: Global, sign: bool, full: &State) -> Result<Screen, AllocError> {
-        let mut flags = State::empty(alloc, full.atoms())?;
-        if !sign {
-            flags.copy_from(full);
-        }
-        Ok(Screen { sign, flags })
+    fn empty(alloc: Global, own: Literal, sign: bool, full: &State) -> Result<Screen, AllocError>
+        requires { HoldsAll full.now }
+        ensures { IfOk result (λ screen. (clauses : List (List LiteralOf))
+            → IsExact clauses screen) }
+    {
+        Ok(Screen {
+            own,
+            sign,
+            exact: true,
+            flags: flags_without(alloc, sign, full)?,
+        })
     }
 
     // Puts a literal of each of the clauses at these places. The answer is false if one has none.
-    fn put_all(&mut self, clauses: &Clauses, places: &[u32], own: u32) -> bool
-        requires { (k : ℕ) → k < length places.now
+    fn put_all(&mut self, clauses: &Clauses, places: &[u32]) -> bool
+        requires places { (k : ℕ) → k < length places.now
             → slice_index_or places.now k 0 < length clauses.now }
-        ensures { result ≡ true → (c : ℕ) → Contains places.now c
+        requires exact { IsExact clauses.now self.old }
+        ensures screened { result ≡ true → (c : ℕ) → Contains places.now c
             → IsScreened self.new (clause_at clauses.now c) }
+        ensures exact { result ≡ true → IsExact clauses.now self.new }
     {
         for at in 0..places.len() {
-            if !self.put(clauses.get(places[at] as usize), own) {
+            if !self.put(clauses.get(places[at] as usize)) {
                 return false;
             }
         }
@@ -82,40 +97,68 @@ impl Screen {
     }
 
     // Puts a literal of the clause. The answer is false if it has none.
-    fn put(&mut self, clause: &[Literal], own: u32) -> bool
+    fn put(&mut self, clause: &[Literal]) -> bool
         ensures here { result ≡ true → IsScreened self.new clause.now }
-        ensures keeps { (other : List Literal) → IsScreened self.old other
+        ensures keeps { (other : List LiteralOf) → IsScreened self.old other
             → IsScreened self.new other }
+        ensures exact { (clauses : List (List LiteralOf)) (c : ℕ) → c < length clauses
+            → clause_at clauses c ≡ clause.now → IsExact clauses self.old
+            → IsExact clauses self.new }
     {
-        match atom_beside(clause, self.sign, own) {
+        match atom_beside(clause, self.sign, self.own.atom) {
             None => false,
             Some(atom) => {
                 if atom >= self.flags.atoms() {
                     return false;
                 }
+                let other = Literal {
+                    atom,
+                    positive: self.sign,
+                };
+                self.exact = are_all(self.exact, clause, self.own, other);
                 self.flags.set(atom, self.sign);
                 true
             }
         }
     }
 
-    /// Whether all of the literals are true in the state.
-    pub(crate) fn is_true_in(&self, state: &State) -> bool
-        ensures { result ≡ true → (clause : List Literal) → SpeakBelow (length state.now) clause
-            → IsScreened self.now clause → in_clause clause state.now ≡ true }
+    /// Whether the clauses are true in the state, if the literals tell: all of them, or one isn't.
+    pub(crate) fn decides(&self, state: &State) -> Option<bool>
+        ensures { IfSome result (λ yes. IsDecidedAs yes self.now state.now) }
     {
         if self.flags.atoms() != state.atoms() {
-            return false;
+            return None;
         }
-        agrees(&self.flags, self.sign, state)
+        if agrees(&self.flags, self.sign, state) {
+            return Some(true);
+        }
+        if self.exact && is_false_in(self.own, state) {
+            return Some(false);
+        }
+        None
     }
+}
+
+// Flags of which none is this sign.
+fn flags_without(alloc: Global, sign: bool, full: &State) -> Result<State, AllocError>
+    requires { HoldsAll full.now }
+    ensures { IfOk result (λ flags. (q : ℕ) → q < length flags → has_atom flags q ≡ not sign) }
+{
+    let mut flags = State::empty(alloc, full.atoms())?;
+    if sign {
+        return Ok(flags);
+    }
+    flags.copy_from(full);
+    Ok(flags)
 }
 
 // Whether each atom of which the flag is this sign is of this sign in the state.
 fn agrees(flags: &State, sign: bool, state: &State) -> bool
     requires { length flags.now ≡ length state.now }
-    ensures { result ≡ true → (q : ℕ) → q < length state.now → has_atom flags.now q ≡ sign
+    ensures all { result ≡ true → (q : ℕ) → q < length state.now → has_atom flags.now q ≡ sign
         → has_atom state.now q ≡ sign }
+    ensures one { result ≡ false → (q : ℕ) × (q < length state.now)
+        × (has_atom flags.now q ≡ sign) × (has_atom state.now q ≡ not sign) }
 {
     if sign {
         flags.next_outside(state, 0).is_none()
@@ -127,6 +170,29 @@ fn agrees(flags: &State, sign: bool, state: &State) -> bool
 // Whether a screen of so many atoms takes little room beside so many clauses.
 pub(crate) fn pays(atoms: u32, clauses: usize) -> bool {
     atoms as usize / 64 / WORDS < clauses
+}
+
+// Whether this holds, and the clause has no literal but these two.
+fn are_all(holds: bool, clause: &[Literal], first: Literal, second: Literal) -> bool
+    ensures holds { result ≡ true → holds ≡ true }
+    ensures all { result ≡ true → All (IsEither first second) clause.now }
+{
+    if !holds {
+        return false;
+    }
+    for literal in clause {
+        if *literal != first && *literal != second {
+            return false;
+        }
+    }
+    true
+}
+
+// Whether the literal is false in the state, which has its atom.
+fn is_false_in(literal: Literal, state: &State) -> bool
+    ensures { result ≡ true → in_literal literal state.now ≡ false }
+{
+    literal.atom < state.atoms() && !literal.is_true_in(state)
 }
 
 // The atom of a literal of this sign in the clause, but not this atom.

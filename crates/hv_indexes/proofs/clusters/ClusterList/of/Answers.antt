@@ -26,7 +26,7 @@ loop-at-preserved c =
     c.part_of-range.ensures.from c.part_of-range.ensures.upto c.requires.heads in
     puts_cluster c.args.clauses.now c.args.heads.now c.args.places.now c.loop-at.at
     c.loop-at.list c.put.new.self c.loop-at.invariant range c.in_ok-screen.screen
-    c.in_ok-put.ensures starts ends c.in_ok-screen.ensures
+    c.in_ok-put.ensures starts ends c.in_ok-screen.ensures.screened c.in_ok-screen.ensures.exact
     (λ codes are size d.
     let same = ap (λ (h : RowHead). h.key)
     (get_or_default c.args.heads.now c.loop-at.at _ d c.loop-at-test.true) in (

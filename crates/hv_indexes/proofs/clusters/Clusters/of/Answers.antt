@@ -9,8 +9,8 @@ pub of-requires-clause-places : goal.of-requires-clause-places
 of-requires-clause-places c =
     let numbers = c.in_ok-places.ensures
     ∙ ap (λ (xs : List ℕ). map place_of_code xs) c.deref-2.ensures.value in
-    places_inside c.args.codes.items c.sort.new.codes.items c.deref-4.result.now
-    (length c.args.clauses.now) (c.deref-4.ensures.value ∙ numbers) c.sort.ensures.has c.requires
+    places_inside c.args.codes.items c.sort_by_keys.new.codes.items c.deref-4.result.now
+    (length c.args.clauses.now) (c.deref-4.ensures.value ∙ numbers) c.in_ok-sort_by_keys.ensures.has c.requires
 
 pub returns-clause-are : goal.returns-clause-are
 returns-clause-are c =
@@ -22,8 +22,8 @@ returns-clause-are c =
     ∙ ap (λ (xs : List ℕ). map place_of_code xs) c.deref-2.ensures.value in
     clusters_are clauses (record { heads = heads; places = places; list = list })
     c.in_ok-heads.ensures.rises
-    (places_inside c.args.codes.items c.sort.new.codes.items places.items (length clauses) numbers
-    c.sort.ensures.has c.requires)
+    (places_inside c.args.codes.items c.sort_by_keys.new.codes.items places.items (length clauses) numbers
+    c.in_ok-sort_by_keys.ensures.has c.requires)
     (subst (λ hs. AreClustersUpto clauses hs places.items (length hs) list)
     c.deref-3.ensures.value
     (subst (λ ps. AreClustersUpto clauses c.deref-3.result.now ps (length c.deref-3.result.now)
@@ -32,13 +32,13 @@ returns-clause-are c =
 pub returns-clause-owned : goal.returns-clause-owned
 returns-clause-owned c = λ p number few has.
     let clauses = c.args.clauses.now in
-    let sorted = c.sort.new.codes.items in
+    let sorted = c.sort_by_keys.new.codes.items in
     let heads = c.in_ok-heads.heads in
     let places = c.in_ok-places.places in
     let list = c.in_ok-list.list in
     let numbers = c.in_ok-places.ensures
     ∙ ap (λ (xs : List ℕ). map place_of_code xs) c.deref-2.ensures.value in
-    owned_by sorted places.items c.sort.ensures.rises numbers clauses
+    owned_by sorted places.items c.in_ok-sort_by_keys.ensures.rises numbers clauses
     (record { heads = heads; places = places; list = list }) refl
     (subst (λ xs. AreHeads xs heads.items) c.deref.ensures.value c.in_ok-heads.ensures)
     (sym (ap length numbers ∙ length-map sorted place_of_code))
@@ -46,4 +46,4 @@ returns-clause-owned c = λ p number few has.
     c.deref-3.ensures.value
     (subst (λ ps. AreClustersUpto clauses c.deref-3.result.now ps (length c.deref-3.result.now)
     list) c.deref-4.ensures.value c.in_ok-list.ensures))
-    p number few ((c.sort.ensures.has (code p number)).1 has)
+    p number few ((c.in_ok-sort_by_keys.ensures.has (code p number)).1 has)

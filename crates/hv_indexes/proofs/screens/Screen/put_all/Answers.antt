@@ -12,10 +12,14 @@ loop-at-preserved c =
     let here : clause_at clauses (get_or places c.loop-at.at 0) ≡ c.get.result.now =
     get_or_from_slice_get clauses (get_or places c.loop-at.at 0) c.get.result.now []
     c.get.ensures in
-    screens_more clauses places c.loop-at.at c.loop-at.self c.put.new.self
-    c.if-not-put.ensures.keeps c.loop-at.invariant
-    (subst (λ ls. IsScreened c.put.new.self ls) (sym here) (c.if-not-put.ensures.here refl))
+    record {
+      screened = screens_more clauses places c.loop-at.at c.loop-at.self c.put.new.self
+          c.if-not-put.ensures.keeps c.loop-at.invariant.screened
+          (subst (λ ls. IsScreened c.put.new.self ls) (sym here) (c.if-not-put.ensures.here refl));
+      exact = c.if-not-put.ensures.exact clauses (get_or places c.loop-at.at 0)
+          (c.requires.places c.loop-at.at c.loop-at-test.true) here c.loop-at.invariant.exact;
+    }
 
-pub returns : goal.returns
-returns c = λ _. screens_all c.args.clauses.now c.args.places.now c.loop-at.at c.loop-at.self
-    c.loop-at-test.false c.loop-at.invariant
+pub returns-clause-screened : goal.returns-clause-screened
+returns-clause-screened c = λ _. screens_all c.args.clauses.now c.args.places.now c.loop-at.at
+    c.loop-at.self c.loop-at-test.false c.loop-at.invariant.screened
