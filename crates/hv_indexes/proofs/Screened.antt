@@ -3,6 +3,7 @@ use Rattle.std.proofs.Common.{◌≡◌, ◌∙◌, ◌<◌, ◌||◌, ℕ, suc,
 use Rattle.std.proofs.Common.{List, [], ◌∷◌, length, refl, sym, ap, ap₂, arith, subst, inl, inr}
 use Rattle.std.proofs.lemmas.Bool.{cases_eq}
 use Rattle.std.proofs.lemmas.List.{get_or-set_other, length-set}
+use Rattle.std.proofs.Math.Bool.{beq}
 use Rattle.std.specs.List.{All}
 use Rattle.std.specs.Prelude.{slice_set}
 use Rattle.hv_task.specs.State.{has_atom}
@@ -14,6 +15,13 @@ use Rattle.hv_indexes.specs.Mates.{IsExact}
 use Rattle.hv_indexes.specs.Places.{clause_at}
 use Rattle.hv_indexes.specs.Working.Mates.{IsDecidedAs}
 use Rattle.hv_indexes.proofs.Mated.{not_both}
+
+-- two signs that are tested to be one
+pub one_sign : (a b : Bool) → beq a b ≡ true → a ≡ b
+one_sign true true e = refl
+one_sign true false e = sym e
+one_sign false true e = e
+one_sign false false e = refl
 
 -- a literal is false where its atom has the other sign
 pub false_as : (sign : Bool) (p : ℕ) (s : List Bool) → has_atom s p ≡ not sign

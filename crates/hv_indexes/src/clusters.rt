@@ -13,10 +13,12 @@ ghost use Rattle.hv_sets.specs.Truth.{in_clause};
 ghost use Rattle.hv_indexes.specs.Mates.{AreClusters, IsPutUnder, cluster_places, AreTried};
 ghost use Rattle.hv_indexes.specs.Working.Mates.{AreClustersUpto, HoldsAll, IsDue};
 ghost use Rattle.hv_indexes.specs.Working.Mates.{PutsCluster};
+ghost use Rattle.hv_indexes.specs.Occurrences.{IsIndexOf};
 ghost use Rattle.hv_indexes.specs.Rows.{HasHeads, code, place_of_code};
 ghost use Rattle.hv_indexes.specs.declared.clusters.Cluster.{Cluster};
 
 use crate::counted::sort_by_keys;
+use crate::occurrences::Occurrences;
 use crate::rows::{self, RowHead, RowRange};
 use crate::screens::{self, Screen};
 use hv_sets::{Clauses, Literal};
@@ -68,9 +70,12 @@ impl Clusters {
         atoms: u32,
         sign: bool,
         clauses: &Clauses,
+        occurs: &Occurrences,
         codes: Vec<usize>,
     ) -> Result<Clusters, AllocError>
-        requires { (x : ℕ) → Contains codes.items x → place_of_code x < length clauses.now }
+        requires occurs { IsIndexOf clauses.now occurs.now }
+        requires codes { (x : ℕ) → Contains codes.items x
+            → place_of_code x < length clauses.now }
         ensures are { IfOk result (AreClusters clauses.now) }
         ensures owned { IfOk result (λ them. (p c : ℕ) → c < 2 ^ 32
             → Contains codes.items (code p c) → IsPutUnder them p c) }
@@ -79,7 +84,7 @@ impl Clusters {
         sort_by_keys(alloc, &mut codes)?;
         let heads = rows::heads_of(alloc, &codes)?;
         let places = rows::numbers_of(alloc, &codes)?;
-        let list = ClusterList::of(alloc, atoms, sign, clauses, &heads, &places)?;
+        let list = ClusterList::of(alloc, atoms, sign, clauses, occurs, &heads, &places)?;
         Ok(Clusters {
             heads,
             places,
@@ -173,9 +178,11 @@ impl ClusterList {
         atoms: u32,
         sign: bool,
         clauses: &Clauses,
+        occurs: &Occurrences,
         heads: &[RowHead],
         places: &[u32],
     ) -> Result<ClusterList, AllocError>
+        requires occurs { IsIndexOf clauses.now occurs.now }
         requires heads { HasHeads heads.now (length places.now) }
         requires places { (k : ℕ) → k < length places.now
             → slice_index_or places.now k 0 < length clauses.now }
@@ -191,7 +198,8 @@ impl ClusterList {
                 atom: heads[at].key,
                 positive: sign,
             };
-            let screen = Screen::of(alloc, clauses, part, own, &full)?;
+            let standing = occurs.standing(own);
+            let screen = Screen::of(alloc, clauses, part, &standing, &full)?;
             list.put(range, screen)?;
         }
         Ok(list)

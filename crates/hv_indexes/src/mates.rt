@@ -55,8 +55,8 @@ impl Mates {
         ensures { IfOk result (AreMates clauses.now) }
     {
         let put = put_all(alloc, clauses, occurs)?;
-        let negative = Clusters::of(alloc, atoms, false, clauses, put.negative)?;
-        let positive = Clusters::of(alloc, atoms, true, clauses, put.positive)?;
+        let negative = Clusters::of(alloc, atoms, false, clauses, occurs, put.negative)?;
+        let positive = Clusters::of(alloc, atoms, true, clauses, occurs, put.positive)?;
         Ok(Mates {
             negative,
             positive,

@@ -12,11 +12,14 @@ ghost use Rattle.std.specs.List.{All, Contains};
 ghost use Rattle.hv_task.specs.State.{has_atom};
 ghost use Rattle.hv_sets.specs.declared.literal.Literal.{Literal as LiteralOf};
 ghost use Rattle.hv_sets.specs.Truth.{in_literal};
-ghost use Rattle.hv_indexes.specs.Implied.{IsEither};
+ghost use Rattle.hv_indexes.specs.Implied.{IsEither, IsPair};
+ghost use Rattle.hv_indexes.specs.Occurrences.{AreStanding};
 ghost use Rattle.hv_indexes.specs.Places.{clause_at};
 ghost use Rattle.hv_indexes.specs.Mates.{IsExact, IsScreened};
 ghost use Rattle.hv_indexes.specs.Working.Mates.{HoldsAll, IsDecidedAs};
 
+use crate::occurrences::Standing;
+use crate::partners;
 use hv_sets::{Clauses, Literal};
 use hv_task::State;
 use std::alloc::{AllocError, Global};
@@ -35,17 +38,18 @@ pub(crate) struct Screen {
 }
 
 impl Screen {
-    /// A screen for the clauses at these places, which are put under the own literal, if that pays
-    /// and each has a literal of one sign of another atom. `full` is a state that holds all atoms.
+    /// A screen for the clauses at these places, which are put under the literal of a row, if that
+    /// pays and each has another literal of one sign. `full` is a state that holds all atoms.
     pub(crate) fn of(
         alloc: Global,
         clauses: &Clauses,
         places: &[u32],
-        own: Literal,
+        standing: &Standing<'_>,
         full: &State,
     ) -> Result<Option<Screen>, AllocError>
         requires places { (k : ℕ) → k < length places.now
             → slice_index_or places.now k 0 < length clauses.now }
+        requires standing { AreStanding clauses.now standing.now }
         requires full { HoldsAll full.now }
         ensures screened { IfOk result (λ found. IfSome found (λ screen. (c : ℕ)
             → Contains places.now c → IsScreened screen (clause_at clauses.now c))) }
@@ -54,12 +58,12 @@ impl Screen {
         if !pays(full.atoms(), places.len()) {
             return Ok(None);
         }
-        let mut negative = Screen::empty(alloc, own, false, full)?;
-        if negative.put_all(clauses, places) {
+        let mut negative = Screen::empty(alloc, standing.literal, false, full)?;
+        if negative.put_all(clauses, places, standing) {
             return Ok(Some(negative));
         }
-        let mut positive = Screen::empty(alloc, own, true, full)?;
-        if positive.put_all(clauses, places) {
+        let mut positive = Screen::empty(alloc, standing.literal, true, full)?;
+        if positive.put_all(clauses, places, standing) {
             return Ok(Some(positive));
         }
         Ok(None)
@@ -80,20 +84,49 @@ impl Screen {
     }
 
     // Puts a literal of each of the clauses at these places. The answer is false if one has none.
-    fn put_all(&mut self, clauses: &Clauses, places: &[u32]) -> bool
+    // Both the places and the row rise, so the row is gone through once.
+    fn put_all(&mut self, clauses: &Clauses, places: &[u32], standing: &Standing<'_>) -> bool
         requires places { (k : ℕ) → k < length places.now
             → slice_index_or places.now k 0 < length clauses.now }
+        requires standing { AreStanding clauses.now standing.now }
         requires exact { IsExact clauses.now self.old }
         ensures screened { result ≡ true → (c : ℕ) → Contains places.now c
             → IsScreened self.new (clause_at clauses.now c) }
         ensures exact { result ≡ true → IsExact clauses.now self.new }
     {
+        let mut index = 0;
         for at in 0..places.len() {
-            if !self.put(clauses.get(places[at] as usize)) {
+            index = index_from(standing.places, index, places[at] as usize);
+            if !self.put_at(clauses, standing, index, places[at]) {
                 return false;
             }
         }
         true
+    }
+
+    // Puts a literal of the clause at a place, which may be the one at an index of the row: then
+    // the row tells it where the clause has two. The answer is false if it has none.
+    fn put_at(
+        &mut self,
+        clauses: &Clauses,
+        standing: &Standing<'_>,
+        index: usize,
+        place: u32,
+    ) -> bool
+        requires place { place < length clauses.now }
+        requires standing { AreStanding clauses.now standing.now }
+        ensures here { result ≡ true → IsScreened self.new (clause_at clauses.now place) }
+        ensures keeps { (other : List LiteralOf) → IsScreened self.old other
+            → IsScreened self.new other }
+        ensures exact { IsExact clauses.now self.old → IsExact clauses.now self.new }
+    {
+        if let Some(other) = other_at(standing, index, place) {
+            if other.positive == self.sign {
+                let exact = are_one(self.exact, standing.literal, self.own);
+                return self.put_atom(other.atom, exact);
+            }
+        }
+        self.put(clauses.get(place as usize))
     }
 
     // Puts a literal of the clause. The answer is false if it has none.
@@ -108,18 +141,36 @@ impl Screen {
         match atom_beside(clause, self.sign, self.own.atom) {
             None => false,
             Some(atom) => {
-                if atom >= self.flags.atoms() {
-                    return false;
-                }
                 let other = Literal {
                     atom,
                     positive: self.sign,
                 };
-                self.exact = are_all(self.exact, clause, self.own, other);
-                self.flags.set(atom, self.sign);
-                true
+                let exact = are_all(self.exact, clause, self.own, other);
+                self.put_atom(atom, exact)
             }
         }
+    }
+
+    // Puts the literal of this atom, and makes the screen exact or not. The answer is false if
+    // there is no such flag.
+    fn put_atom(&mut self, atom: u32, exact: bool) -> bool
+        ensures here { result ≡ true → (clause : List LiteralOf)
+            → Contains clause (record { atom = atom; positive = self.old.sign })
+            → IsScreened self.new clause }
+        ensures keeps { (other : List LiteralOf) → IsScreened self.old other
+            → IsScreened self.new other }
+        ensures exact { (clauses : List (List LiteralOf)) (c : ℕ) → c < length clauses
+            → (exact ≡ true → self.old.exact ≡ true)
+            → (exact ≡ true → All (IsEither self.old.own
+            (record { atom = atom; positive = self.old.sign })) (clause_at clauses c))
+            → IsExact clauses self.old → IsExact clauses self.new }
+    {
+        if atom >= self.flags.atoms() {
+            return false;
+        }
+        self.exact = exact;
+        self.flags.set(atom, self.sign);
+        true
     }
 
     /// Whether the clauses are true in the state, if the literals tell: all of them, or one isn't.
@@ -137,6 +188,27 @@ impl Screen {
         }
         None
     }
+}
+
+// From an index of a row on, that of the first place which isn't less than this one.
+fn index_from(places: &[usize], from: usize, place: usize) -> usize {
+    for index in from..places.len() {
+        if places[index] >= place {
+            return index;
+        }
+    }
+    places.len()
+}
+
+// The other literal of the clause at a place, if it is at this index of a row that tells it.
+fn other_at(standing: &Standing<'_>, index: usize, place: u32) -> Option<Literal>
+    ensures { (clauses : List (List LiteralOf)) → AreStanding clauses standing.now
+        → IfSome result (IsPair (clause_at clauses place) standing.now.literal) }
+{
+    if index >= standing.places.len() || standing.places[index] != place as usize {
+        return None;
+    }
+    partners::literal_at(standing.entries, index)
 }
 
 // Flags of which none is this sign.
@@ -186,6 +258,14 @@ fn are_all(holds: bool, clause: &[Literal], first: Literal, second: Literal) -> 
         }
     }
     true
+}
+
+// Whether this holds, and the two literals are one.
+fn are_one(holds: bool, first: Literal, second: Literal) -> bool
+    ensures holds { result ≡ true → holds ≡ true }
+    ensures one { result ≡ true → first ≡ second }
+{
+    holds && first == second
 }
 
 // Whether the literal is false in the state, which has its atom.

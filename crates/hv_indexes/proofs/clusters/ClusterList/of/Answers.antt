@@ -17,6 +17,10 @@ slice_bounds-part-start c =
     headed_upto c.args.heads.now _ _ c.part_of-range.result.from c.part_of-range.result.upto
     c.part_of-range.ensures.from c.part_of-range.ensures.upto c.requires.heads
 
+pub of-requires-clause-standing : goal.of-requires-clause-standing
+of-requires-clause-standing c =
+    c.standing-standing.ensures.standing c.args.clauses.now c.requires.occurs
+
 pub loop-at-preserved : goal.loop-at-preserved
 loop-at-preserved c =
     let range = c.part_of-range.result in

@@ -10,7 +10,7 @@ of-requires-clause-places c =
     let numbers = c.in_ok-places.ensures
     ∙ ap (λ (xs : List ℕ). map place_of_code xs) c.deref-2.ensures.value in
     places_inside c.args.codes.items c.sort_by_keys.new.codes.items c.deref-4.result.now
-    (length c.args.clauses.now) (c.deref-4.ensures.value ∙ numbers) c.in_ok-sort_by_keys.ensures.has c.requires
+    (length c.args.clauses.now) (c.deref-4.ensures.value ∙ numbers) c.in_ok-sort_by_keys.ensures.has c.requires.codes
 
 pub returns-clause-are : goal.returns-clause-are
 returns-clause-are c =
@@ -23,7 +23,7 @@ returns-clause-are c =
     clusters_are clauses (record { heads = heads; places = places; list = list })
     c.in_ok-heads.ensures.rises
     (places_inside c.args.codes.items c.sort_by_keys.new.codes.items places.items (length clauses) numbers
-    c.in_ok-sort_by_keys.ensures.has c.requires)
+    c.in_ok-sort_by_keys.ensures.has c.requires.codes)
     (subst (λ hs. AreClustersUpto clauses hs places.items (length hs) list)
     c.deref-3.ensures.value
     (subst (λ ps. AreClustersUpto clauses c.deref-3.result.now ps (length c.deref-3.result.now)
