@@ -7,6 +7,7 @@ pub mod Changes
 pub mod Trailed
 pub mod Chasing
 pub mod PartnerEntries
+pub mod FoundRuns
 pub mod Covered
 pub mod Completing
 pub mod Assuming

@@ -6,4 +6,5 @@ pub mod Scan
 pub mod Completion
 pub mod Buffers
 pub mod Chase
+pub mod FoundRun
 pub mod UnitRounds

@@ -49,6 +49,28 @@ impl<'a> Buffers<'a> {
         })
     }
 
+    // The row of places.
+    #[inline(always)]
+    pub(crate) fn places(&self) -> &[u32]
+        ensures { result.now ≡ places_in self.now }
+    {
+        match &self.own {
+            None => self.places,
+            Some(rows) => &rows.places,
+        }
+    }
+
+    // The row of entries.
+    #[inline(always)]
+    pub(crate) fn queue(&self) -> &[u32]
+        ensures { result.now ≡ queue_in self.now }
+    {
+        match &self.own {
+            None => self.queue,
+            Some(rows) => &rows.queue,
+        }
+    }
+
     // The place that is here.
     #[inline(always)]
     pub(crate) fn place(&self, at: usize) -> u32

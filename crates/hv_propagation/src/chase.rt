@@ -201,6 +201,22 @@ fn place_of_other(
     ensures after { from ≤ result }
     ensures settled { AreSettledBetween effect.now (marks_of marks.now) standing.now from result }
 {
+    if effect.says_nothing() {
+        return marks.past_found(standing.entries, from);
+    }
+    place_of_other_behind(standing, from, effect, marks)
+}
+
+// The same, seen through the effect.
+fn place_of_other_behind(
+    standing: &Standing<'_>,
+    from: usize,
+    effect: &ActionEffect<'_>,
+    marks: &Assignment<'_>,
+) -> usize
+    ensures after { from ≤ result }
+    ensures settled { AreSettledBetween effect.now (marks_of marks.now) standing.now from result }
+{
     let mut index = from;
     while index < standing.entries.len() {
         if !is_true_beside(standing, index, effect, marks) {

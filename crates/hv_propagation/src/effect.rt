@@ -4,7 +4,7 @@
 //! are asked about after an action are read through it, none is copied, and no row is written.
 //! Actions touch few atoms, so this is as fast as a row of marks, and needs no memory.
 
-ghost use Rattle.std.specs.Prelude.{◌≡◌, ◌<◌, ◌↔◌, [], ℕ, IsTrue, IfSome, Some, length};
+ghost use Rattle.std.specs.Prelude.{◌≡◌, ◌<◌, ◌↔◌, [], ℕ, IsTrue, IfSome, None, Some, length, true};
 ghost use Rattle.std.specs.List.{Contains};
 ghost use Rattle.std.specs.List.Sorted.{IsStrictlyIncreasing};
 ghost use Rattle.hv_task.specs.Working.AtomList.{IsPlaceOf};
@@ -90,6 +90,14 @@ impl<'a> ActionEffect<'a> {
         } else {
             ActionEffect::none()
         }
+    }
+
+    // Whether it says nothing of any atom.
+    #[inline(always)]
+    pub(crate) fn says_nothing(&self) -> bool
+        ensures { result ≡ true → (p : ℕ) → known self.now p ≡ None }
+    {
+        self.add.is_empty() && self.del.is_empty()
     }
 
     /// What an atom is made, if that is known.

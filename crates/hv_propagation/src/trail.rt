@@ -10,14 +10,19 @@ ghost use Rattle.std.specs.List.Sorted.{IsStrictlyIncreasing};
 ghost use Rattle.hv_sets.specs.Cubes.{atoms_of};
 ghost use Rattle.hv_propagation.specs.Marks.{filled, known};
 ghost use Rattle.hv_propagation.specs.Trail.{marked, marks_of};
+ghost use Rattle.hv_propagation.specs.Working.FoundRun.{AreKnownEntries};
 
 use crate::buffers::Buffers;
+use crate::found_run;
 use crate::roots::Roots;
 use crate::watched::Watch;
 use hv_sets::Literal;
 use hv_task::State;
 use std::alloc::{AllocError, Global};
 use std::marker::Model;
+
+// The entry of each literal of so many atoms differs from that which denotes none.
+const MOST_ATOMS: usize = u32::MAX as usize / 2;
 
 /// What is known of the atoms of a task: literals that were known before, which stay as they are,
 /// and those that were found true since, in memory that others lend, whatever is there, or that
@@ -165,6 +170,20 @@ impl<'a> Assignment<'a> {
             return self.roots.read(self.atoms, atom);
         }
         Some(entry % 2 == 1)
+    }
+
+    // The first place of the list from this one on whose entry isn't one of a literal that is found
+    // on the trail.
+    pub(crate) fn past_found(&self, entries: &[u32], from: usize) -> usize
+        ensures after { from ≤ result }
+        ensures found { AreKnownEntries (marks_of self.now) entries.now from result }
+    {
+        // The entry that denotes no literal is that of the last atom that there can be.
+        if self.atoms > MOST_ATOMS {
+            return from;
+        }
+        let queue = &self.buffers.queue()[..self.len];
+        found_run::first_missing(entries, from, self.buffers.places(), queue)
     }
 
     // Whether the literal stands on the trail. It may be known to be true where it doesn't.
