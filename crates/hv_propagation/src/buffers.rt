@@ -1,8 +1,11 @@
 //! Buffers for a trail.
 
-ghost use Rattle.std.specs.Prelude.{◌≡◌, ◌<◌, ◌≤◌, length, slice_index, slice_set, IfOk};
+ghost use Rattle.std.specs.Prelude.{◌≡◌, ◌<◌, ◌≤◌, IfOk, length, replicate, slice_index, slice_set};
 ghost use Rattle.hv_propagation.specs.Working.Buffers.{places_in, queue_in};
+ghost use Rattle.hv_propagation.specs.Working.FoundRun.{IsRun, bare};
+ghost use Rattle.hv_propagation.specs.Working.Trail.{AreJoined};
 
+use crate::found_run::{self, RunEnd};
 use std::alloc::{AllocError, Global};
 
 // A row of places and a row of entries: its own, or else those that others lend.
@@ -68,6 +71,34 @@ impl<'a> Buffers<'a> {
         match &self.own {
             None => self.queue,
             Some(rows) => &rows.queue,
+        }
+    }
+
+    // Puts each entry of a list last, unless it is there, as `force_each` does.
+    #[inline(always)]
+    pub(crate) fn force_each(
+        &mut self,
+        entries: &[u32],
+        from: usize,
+        atoms: usize,
+        len: usize,
+    ) -> RunEnd
+        requires few { atoms ≤ 2147483647 }
+        requires joined { AreJoined (replicate atoms 0) (places_in self.old) (queue_in self.old)
+            len }
+        ensures { IsRun entries.now from atoms (bare atoms (queue_in self.old) len)
+            (places_in self.new) (queue_in self.new) result }
+    {
+        match &mut self.own {
+            None => found_run::force_each(entries, from, atoms, self.places, self.queue, len),
+            Some(rows) => found_run::force_each(
+                entries,
+                from,
+                atoms,
+                &mut rows.places,
+                &mut rows.queue,
+                len,
+            ),
         }
     }
 

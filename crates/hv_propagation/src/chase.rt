@@ -7,7 +7,7 @@
 //! that the trail has from the present place on is settled, that is, it is satisfied or has two
 //! unassigned literals. When the place has reached the end of the trail, all clauses are settled.
 
-ghost use Rattle.std.specs.Prelude.{◌≡◌, ◌<◌, ◌≤◌, ◌+◌, ℕ, List, Some, false, true, length};
+ghost use Rattle.std.specs.Prelude.{◌≡◌, ◌<◌, ◌≤◌, ◌+◌, ℕ, List, None, Some, false, true, length};
 ghost use Rattle.std.specs.Prelude.{slice_get, slice_index};
 ghost use Rattle.std.specs.List.{Contains};
 ghost use Rattle.hv_sets.specs.declared.literal.Literal.{Literal as LiteralOf};
@@ -16,14 +16,16 @@ ghost use Rattle.hv_sets.specs.Truth.{in_clause, in_clauses};
 ghost use Rattle.hv_propagation.specs.Chase.{AreKept, IsFollowed, IsKept};
 ghost use Rattle.hv_indexes.specs.Places.{clause_at};
 ghost use Rattle.hv_propagation.specs.Clauses.{AreClauses};
-ghost use Rattle.hv_propagation.specs.Marks.{over};
+ghost use Rattle.hv_propagation.specs.Marks.{known, over};
 ghost use Rattle.hv_indexes.specs.Occurrences.{AreStanding, IsIndexOf};
 ghost use Rattle.hv_indexes.specs.Signed.{StandsAs};
 ghost use Rattle.hv_propagation.specs.Trail.{marks_of};
 ghost use Rattle.hv_propagation.specs.Units.{IsSettled, value_of};
 ghost use Rattle.hv_propagation.specs.Working.Chase.{AreSettledBetween, IsSettledAt};
+ghost use Rattle.hv_propagation.specs.Working.FoundRun.{AreKnownEntries};
 
 use crate::effect::ActionEffect;
+use crate::found_run::RunEnd;
 use crate::trail::Assignment;
 use crate::watched::Scan;
 use crate::{literals, watched};
@@ -155,6 +157,9 @@ pub(crate) fn visit_all(
     ensures kept { result ≡ true → (place : ℕ) → Contains standing.now.places.now place
         → IsKept effect.now (clause_at clauses.now place) marks.new (length marks.old.trail) }
 {
+    if effect.says_nothing() && marks.is_bare() {
+        return visit_in_runs(clauses, standing, effect, marks);
+    }
     let mut index = 0;
     while index < standing.places.len() {
         let before = marks.len();
@@ -164,6 +169,71 @@ pub(crate) fn visit_all(
         index = next_place(standing, index, marks.len() > before, effect, marks);
     }
     true
+}
+
+// The same where there is no effect: many clauses of two literals at once, and each other one.
+fn visit_in_runs(
+    clauses: &Clauses,
+    standing: &Standing<'_>,
+    effect: &ActionEffect<'_>,
+    marks: &mut Assignment<'_>,
+) -> bool
+    requires clauses { AreClauses (length marks.old.roots) clauses.now }
+    requires standing { AreStanding clauses.now standing.now }
+    requires nothing { (p : ℕ) → known effect.now p ≡ None }
+    requires out { value_of effect.now (marks_of marks.old) standing.now.literal ≡ Some false }
+    ensures followed { IsFollowed (λ state. in_clauses clauses.now (over effect.now state) ≡ true)
+        marks.old marks.new result }
+    ensures kept { result ≡ true → (place : ℕ) → Contains standing.now.places.now place
+        → IsKept effect.now (clause_at clauses.now place) marks.new (length marks.old.trail) }
+{
+    let mut index = 0;
+    while index < standing.places.len() {
+        let run = visit_run(clauses, standing, index, effect, marks);
+        if !run.holds {
+            return false;
+        }
+        if run.index >= standing.places.len() {
+            return true;
+        }
+        if !visit_one(clauses, standing, run.index, effect, marks) {
+            return false;
+        }
+        index = run.index + 1;
+    }
+    true
+}
+
+// Looks at the clauses of two literals from this place on, as far as they come one after the other.
+#[inline(always)]
+fn visit_run(
+    clauses: &Clauses,
+    standing: &Standing<'_>,
+    index: usize,
+    effect: &ActionEffect<'_>,
+    marks: &mut Assignment<'_>,
+) -> RunEnd
+    requires standing { AreStanding clauses.now standing.now }
+    requires nothing { (p : ℕ) → known effect.now p ≡ None }
+    requires wide { AreClauses (length marks.old.roots) clauses.now }
+    requires out { value_of effect.now (marks_of marks.old) standing.now.literal ≡ Some false }
+    ensures followed { IsFollowed (λ state. in_clauses clauses.now (over effect.now state) ≡ true)
+        marks.old marks.new result.holds }
+    ensures after { index ≤ result.index }
+    ensures known { result.holds ≡ true → AreKnownEntries (marks_of marks.new)
+        standing.now.entries.now index result.index }
+{
+    let _ = clauses;
+    let _ = effect;
+    let count = standing.entries.len().min(standing.places.len());
+    if index >= count {
+        return RunEnd {
+            index,
+            len: 0,
+            holds: true,
+        };
+    }
+    marks.force_run(&standing.entries[..count], index)
 }
 
 // The place after this one. Where nothing was found out here, what follows is mostly known too, as

@@ -1,15 +1,99 @@
-//! How far the entries of a list stand among those of a trail.
+//! A list of entries against those of a trail, in one loop.
 //!
-//! Where a literal that became known tells nothing new, all that stands beside it is on the trail,
-//! and to see that is most of the work of a chase. So this is a loop over bare rows, which knows of
-//! no effect and asks for nothing twice. Where clauses are in order, the entries follow each other
-//! on the trail as they do in the list, and are compared in pairs; from the first one on that
-//! doesn't, each is looked for at the place of its atom. That an entry is there is all that counts:
-//! the places may be any.
+//! Where a literal became known, all that stands beside it is made true, or is seen to be, and that
+//! is most of the work of a chase. So these are loops over bare rows, which know of no effect and
+//! ask for nothing twice. Where clauses are in order, the entries follow each other on the trail as
+//! they do in the list, and are compared in pairs; from the first one on that doesn't, each is
+//! looked for at the place of its atom. That an entry is there is all that counts: the places may
+//! be any.
 
-ghost use Rattle.std.specs.Prelude.{◌≡◌, ◌<◌, ◌≤◌, ℕ, length, slice_index_or, true};
+ghost use Rattle.std.specs.Prelude.{◌≡◌, ◌<◌, ◌≤◌, ◌/◌, ℕ, length, replicate, slice_index_or, true};
 ghost use Rattle.std.specs.List.{Contains};
-ghost use Rattle.hv_propagation.specs.Working.FoundRun.{AreQueued};
+ghost use Rattle.hv_propagation.specs.Working.FoundRun.{AreQueued, IsForcedEntry, IsRun, bare};
+ghost use Rattle.hv_propagation.specs.Working.Trail.{AreJoined};
+
+// The place in a list that was come to, how long the trail is then, and whether no entry was met
+// whose opposite is true.
+#[derive(Clone, Copy)]
+pub(crate) struct RunEnd {
+    pub index: usize,
+    pub len: usize,
+    pub holds: bool,
+}
+
+// How long the trail is, and whether the opposite isn't true.
+#[derive(Clone, Copy)]
+pub(crate) struct Forced {
+    pub len: usize,
+    pub holds: bool,
+}
+
+// Puts each entry of the list from this place on last, unless it is in the queue, up to one that
+// denotes no literal of so many atoms. Nothing is known but what the queue says.
+pub(crate) fn force_each(
+    entries: &[u32],
+    from: usize,
+    atoms: usize,
+    places: &mut [u32],
+    queue: &mut [u32],
+    len: usize,
+) -> RunEnd
+    requires few { atoms ≤ 2147483647 }
+    requires joined { AreJoined (replicate atoms 0) places.old queue.old len }
+    ensures { IsRun entries.now from atoms (bare atoms queue.old len) places.new queue.new result }
+{
+    let mut index = past_run(entries, from, places, &queue[..len]);
+    let mut end = len;
+    while index < entries.len() {
+        let entry = entries[index];
+        if (entry / 2) as usize >= atoms {
+            break;
+        }
+        let forced = force(entry, atoms, places, queue, end);
+        end = forced.len;
+        index += 1;
+        if !forced.holds {
+            return RunEnd {
+                index,
+                len: end,
+                holds: false,
+            };
+        }
+    }
+    RunEnd {
+        index,
+        len: end,
+        holds: true,
+    }
+}
+
+// Puts an entry last, unless it is in the queue, or its opposite is.
+#[inline(always)]
+fn force(entry: u32, atoms: usize, places: &mut [u32], queue: &mut [u32], len: usize) -> Forced
+    requires few { atoms ≤ 2147483647 }
+    requires atom { entry / 2 < atoms }
+    requires joined { AreJoined (replicate atoms 0) places.old queue.old len }
+    ensures { IsForcedEntry entry atoms (bare atoms queue.old len) places.new queue.new result }
+{
+    let _ = atoms;
+    let atom = (entry / 2) as usize;
+    let place = places[atom] as usize;
+    if place < len {
+        let found = queue[place];
+        if found == entry {
+            return Forced { len, holds: true };
+        }
+        if found / 2 == entry / 2 {
+            return Forced { len, holds: false };
+        }
+    }
+    places[atom] = len as u32;
+    queue[len] = entry;
+    Forced {
+        len: len + 1,
+        holds: true,
+    }
+}
 
 // The first place of the list from this one on whose entry isn't found in the queue.
 #[inline(always)]

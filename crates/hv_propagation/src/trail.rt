@@ -5,15 +5,16 @@
 //! no clearing, whatever is in them, and to forget the latest literals is to shorten the trail.
 
 ghost use Rattle.std.specs.Prelude.{◌≡◌, ◌<◌, ◌≤◌, ◌++◌, ◌^◌, [], ◌∷◌, None, Some, length, take};
-ghost use Rattle.std.specs.Prelude.{IfOk, slice_get, true};
+ghost use Rattle.std.specs.Prelude.{IfOk, replicate, slice_get, true};
 ghost use Rattle.std.specs.List.Sorted.{IsStrictlyIncreasing};
 ghost use Rattle.hv_sets.specs.Cubes.{atoms_of};
 ghost use Rattle.hv_propagation.specs.Marks.{filled, known};
 ghost use Rattle.hv_propagation.specs.Trail.{marked, marks_of};
-ghost use Rattle.hv_propagation.specs.Working.FoundRun.{AreKnownEntries};
+ghost use Rattle.hv_propagation.specs.Working.FoundRun.{AreKnownEntries, AreTrueBehind};
+ghost use Rattle.hv_propagation.specs.Chase.{IsFollowed};
 
 use crate::buffers::Buffers;
-use crate::found_run;
+use crate::found_run::{self, RunEnd};
 use crate::roots::Roots;
 use crate::watched::Watch;
 use hv_sets::Literal;
@@ -170,6 +171,38 @@ impl<'a> Assignment<'a> {
             return self.roots.read(self.atoms, atom);
         }
         Some(entry % 2 == 1)
+    }
+
+    // Whether nothing was known before, of not too many atoms.
+    #[inline(always)]
+    pub(crate) fn is_bare(&self) -> bool
+        ensures few { result ≡ true → length self.now.roots ≤ 2147483647 }
+        ensures none { result ≡ true → self.now.roots ≡ replicate (length self.now.roots) 0 }
+    {
+        self.atoms <= MOST_ATOMS && self.roots.are_none()
+    }
+
+    // Puts on the trail what the entries of the list from this place on denote, up to one that
+    // denotes no literal, or one whose opposite is true. Where something was known before, this
+    // goes no further than what is found on the trail.
+    pub(crate) fn force_run(&mut self, entries: &[u32], from: usize) -> RunEnd
+        ensures followed { IsFollowed (AreTrueBehind entries.now from) self.old self.new
+            result.holds }
+        ensures after { from ≤ result.index }
+        ensures known { result.holds ≡ true
+            → AreKnownEntries (marks_of self.new) entries.now from result.index }
+    {
+        if !self.is_bare() {
+            let index = self.past_found(entries, from);
+            return RunEnd {
+                index,
+                len: self.len,
+                holds: true,
+            };
+        }
+        let end = self.buffers.force_each(entries, from, self.atoms, self.len);
+        self.len = end.len;
+        end
     }
 
     // The first place of the list from this one on whose entry isn't one of a literal that is found
