@@ -1,8 +1,8 @@
 -- Lists that are gathered field by field: how reading begins, goes on, stops and ends.
 use Rattle.std.proofs.Common.{◌≡◌, ◌<◌, ◌^◌, ℕ, ◌∙◌, List, [], ◌∷◌, ◌++◌, map, length, Option}
 use Rattle.std.proofs.Common.{Some, None, MatchOption, decimal, refl, sym, ap, subst, append_assoc}
-use Rattle.std.proofs.Common.{arith, eqb}
-use Rattle.std.proofs.lemmas.List.{append-nil, map-append}
+use Rattle.std.proofs.Common.{◌≤◌, arith, eqb, length-append}
+use Rattle.std.proofs.lemmas.List.{append-nil, length-map, map-append}
 use Rattle.std.proofs.lemmas.List.Elements.{All-nil, All-cons, All-push, All-head, All-tail}
 use Rattle.std.proofs.lemmas.List.Splits.{length-slice_split}
 use Rattle.std.specs.List.{All}
@@ -206,3 +206,23 @@ gathers_no_token whole left fields rest so_far line behind never tokens are =
     (are.same ∙ sym so_far.2
     ∙ ap (λ fs. map field_of so_far.0 ++ fs) (behind ∙ first.2)) in
     never split.0 first.1 split.3 (first.2 ∙ ap (λ f. f ∷ first.1) (sym split.4))
+
+-- where two tokens are read and a field is left, the fields denote no two tokens
+pub gathers_too_many : (items : List Token) (fields rest : List (List ℕ))
+    → Gathers (λ ts. ts) fields (λ ts. items ++ ts) rest → (line : List ℕ) → rest ≡ cut_fields line
+    → length items ≡ 2 → (tokens : List Token) → length tokens ≤ 2 → AreTokens tokens fields → ⊥
+gathers_too_many items fields rest so_far line behind two tokens few are =
+    let done = so_far.0 in
+    let same : done ≡ items = sym (append-nil done) ∙ so_far.3 [] ∙ append-nil items in
+    let first = has_first line in
+    omega (
+      arith,
+      two,
+      few,
+      ap length same,
+      ap length (are.same ∙ sym so_far.2),
+      length-append (map field_of done) rest,
+      length-map done field_of,
+      length-map tokens field_of,
+      ap length (behind ∙ first.2),
+    )

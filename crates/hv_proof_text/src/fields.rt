@@ -174,11 +174,15 @@ fn end_front(line: &[u8]) -> Option<Option<&[u8]>>
     }
 }
 
-/// Puts the tokens of the fields in place of what was there, and says whether each field is one.
+/// The most tokens that a line of a set has behind its head, where nothing is listed there.
+const MOST_TOKENS: usize = 2;
+
+/// Puts the tokens of the fields in place of what was there, and says whether each field is one and
+/// there are two at most: no field behind these is read.
 pub(crate) fn tokens_in(tokens: &mut Vec<Token>, fields: Option<&[u8]>) -> Result<bool, AllocError>
     ensures some { result ≡ Ok true
         → AreTokens tokens.new.items (fields_behind fields.entry (λ f. f.now)) }
-    ensures none { result ≡ Ok false → (others : List Token)
+    ensures none { result ≡ Ok false → (others : List Token) → length others ≤ 2
         → AreTokens others (fields_behind fields.entry (λ f. f.now)) → ⊥ }
 {
     tokens.clear();
@@ -187,6 +191,9 @@ pub(crate) fn tokens_in(tokens: &mut Vec<Token>, fields: Option<&[u8]>) -> Resul
         let Some(line) = rest else {
             return Ok(true);
         };
+        if tokens.len() == MOST_TOKENS {
+            return Ok(false);
+        }
         let Some((token, behind)) = token_front(line) else {
             return Ok(false);
         };

@@ -2,8 +2,8 @@
 //!
 //! Their fields are taken one by one, so that the tokens of a list never are in memory together: a
 //! clause, a state or a number is put where it belongs as soon as its field is read. Tokens are
-//! gathered for the other lines of sets alone, of which a well-formed one has at most two behind
-//! its head.
+//! gathered for the other lines of sets alone, and two behind the head at most, as many as a
+//! well-formed one has.
 
 ghost use Rattle.std.specs.Prelude.{◌≡◌, ◌<◌, ◌^◌, ℕ, List, [], ◌∷◌, ◌++◌, MatchOption, IfOk, OnOk};
 ghost use Rattle.std.specs.Prelude.{true, false, None, Ok, Some};

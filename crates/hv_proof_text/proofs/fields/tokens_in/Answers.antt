@@ -1,6 +1,7 @@
-use Rattle.std.proofs.Common.{◌++◌, ap}
+use Rattle.std.proofs.Common.{◌++◌, ap, arith}
 use Rattle.hv_proof_text.specs.Working.Gathering.{fields_behind}
-use Rattle.hv_proof_text.proofs.Gathered.{gathers_no_token, gathers_tokens}
+use Rattle.hv_proof_text.proofs.Gathered.{gathers_no_token, gathers_too_many}
+use Rattle.hv_proof_text.proofs.Gathered.{gathers_tokens}
 use Rattle.hv_proof_text.proofs.fields.tokens_in.Goals as goal
 
 pub returns-in_default-clause-some : goal.returns-in_default-clause-some
@@ -10,8 +11,15 @@ returns-in_default-clause-some c = λ _.
     c.fields.invariant (ap (λ o. fields_behind o (λ f. f.now)) c.in_default.is)
 
 pub returns-in_default-token_front-clause-none : goal.returns-in_default-token_front-clause-none
-returns-in_default-token_front-clause-none c = λ _ others are.
+returns-in_default-token_front-clause-none c = λ _ others _ are.
     gathers_no_token (λ ts. ts) (λ ts. c.fields.tokens.items ++ ts)
     (fields_behind c.args.fields (λ f. f.now)) (fields_behind c.fields.rest (λ f. f.now))
     c.fields.invariant c.in-Some.line.now (ap (λ o. fields_behind o (λ f. f.now)) c.in-Some.is)
     c.in_default-token_front.ensures others are
+
+pub returns-then-len-eq-MOST_TOKENS-clause-none : goal.returns-then-len-eq-MOST_TOKENS-clause-none
+returns-then-len-eq-MOST_TOKENS-clause-none c = λ _ others few are.
+    gathers_too_many c.fields.tokens.items (fields_behind c.args.fields (λ f. f.now))
+    (fields_behind c.fields.rest (λ f. f.now)) c.fields.invariant c.in-Some.line.now
+    (ap (λ o. fields_behind o (λ f. f.now)) c.in-Some.is)
+    (omega (arith, c.fields.tokens.ok, c.len.ensures, c.if-len-eq-MOST_TOKENS.true)) others few are
