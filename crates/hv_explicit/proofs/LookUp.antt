@@ -6,7 +6,7 @@ use Rattle.std.proofs.lemmas.Bool.Decides.{same_from_decides, Decides-by_or}
 use Rattle.std.proofs.lemmas.List.{get_or_default, get_or_push, get_or_append_left, length_push}
 use Rattle.std.proofs.lemmas.List.Elements.{All-contains}
 use Rattle.std.proofs.lemmas.Option.{get_or_from_slice_get, slice_get_within}
-use Rattle.std.specs.List.{All, slice_get}
+use Rattle.std.specs.List.{slice_get}
 use Rattle.std.specs.List.Sorted.{IsStrictlyIncreasing}
 use Rattle.hv_task.specs.State.{AreBelow, has_atom, names_atom, state_of}
 use Rattle.hv_task.proofs.Places.{beq-Decides, has_atom-state_of, length-state_of}
@@ -124,14 +124,6 @@ module _ (states : List (List ℕ)) (firsts : List ℕ) (place : ℕ) (held : Li
               (subst (λ h. IsListCode key h code) (sym (first_new e (omega arith))) is)
         ];
   }
-
--- what the first states have each state has
-pub all_from_firsts : (P : List ℕ → Type 0) (states : List (List ℕ)) (firsts : List ℕ)
-    → AreFirsts states firsts (length states)
-    → ((e : ℕ) → e < length firsts → P (first_at states firsts e)) → All P states
-all_from_firsts P states firsts are each k d within =
-    let e = are.each k within in
-    subst P (e.2 ∙ get_or_default states k [] d within) (each e.0 e.1)
 
 -- a state that some entry denotes is listed, and each listed state has an entry
 pub listed_first : (set : ℕ → Bool) (states : List (List ℕ)) (firsts : List ℕ)

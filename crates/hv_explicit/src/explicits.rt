@@ -1,7 +1,7 @@
 //! Stores of explicit sets.
 
-ghost use Rattle.std.specs.Prelude.{◌≡◌, ◌<◌, ◌++◌, ◌∷◌, ◌↔◌, ℕ, Bool, List, [], length, slice_get};
-ghost use Rattle.std.specs.Prelude.{⊤, Some, IsTrue, IfOk, IfSome, OnErr};
+ghost use Rattle.std.specs.Prelude.{◌≡◌, ◌<◌, ◌++◌, ◌∷◌, ℕ, Bool, List, [], length, slice_get};
+ghost use Rattle.std.specs.Prelude.{⊤, Some, IsTrue, IfOk, OnErr};
 ghost use Rattle.hv_task.specs.Strips.{atoms};
 ghost use Rattle.hv_sets.specs.Cost.{StatesPass};
 ghost use Rattle.hv_sets.specs.Query.{HasAnchor, IsReady};
@@ -11,32 +11,34 @@ ghost use Rattle.hv_explicit.specs.Working.Owners.{IsOwned};
 
 use crate::explicit::Explicit;
 use crate::idle::is_idle;
-use crate::named_sets::NamedSets;
+use crate::named_sets::{FEW, NamedSets};
 use crate::sets_query::SetsQuery;
 use crate::sought::Sought;
-use crate::state_owners::{StateOwners, find_owner, take_in};
+use crate::state_owners::{StateOwners, enter_set, finds_owner, owners_of};
 use hv_sets::{Family, Finding, Query, Scratch};
 use hv_task::Task;
 use std::alloc::{AllocError, Global};
+use std::cell::OnceCell;
 use std::marker::Model;
 
 /// The explicit sets of a proof, numbered from 0 in the order in which they were added.
 #[derive(Drop)]
 pub struct Explicits {
     sets: Vec<Explicit>,
-    owners: StateOwners,
+    // Which sets list a state, once a query has asked for it. No answer depends on it.
+    owners: OnceCell<StateOwners>,
 }
 
 impl Model for Explicits {
     ghost use Rattle.std.specs.Prelude.{List};
     ghost use Rattle.hv_explicit.specs.ListedStates.{ListedStates};
-    ghost use Rattle.hv_explicit.specs.Working.Owners.{IsStore};
+    ghost use Rattle.hv_explicit.specs.Working.Owners.{AreListings};
 
     ghost Value = { List ListedStates };
 
     ghost view = { λ s. s.sets.items };
 
-    ghost invariant = { λ s. IsStore s.sets.items s.owners };
+    ghost invariant = { λ s. AreListings s.sets.items };
 }
 
 impl Explicits {
@@ -46,7 +48,7 @@ impl Explicits {
     {
         Explicits {
             sets: Vec::new(alloc),
-            owners: StateOwners::unknown(alloc),
+            owners: OnceCell::new(),
         }
     }
 
@@ -57,8 +59,7 @@ impl Explicits {
         ensures err { OnErr result (self.new ≡ self.old) }
     {
         let number = self.sets.len();
-        let alloc = *self.sets.allocator();
-        take_in(alloc, &mut self.owners, self.sets.as_slice(), &set)?;
+        take_in(&mut self.owners, self.sets.as_slice(), &set)?;
         self.sets.push(set)?;
         Ok(number)
     }
@@ -78,30 +79,63 @@ impl Explicits {
         &self.sets[place]
     }
 
-    /// Whether one of the operands, asked about after the action (true) or before it, is a set that
-    /// lists the state of these atoms; or none, which says nothing, where more sets list it than
-    /// there are operands, and where the sets are few.
-    pub(crate) fn find_owner<A: Sought>(
+    /// Which sets list a state, for a query with so many negative operands: made here at the first
+    /// query with many of them, and none where these or the sets are few.
+    pub(crate) fn owners_for(
         &self,
+        alloc: Global,
+        operands: usize,
+    ) -> Result<Option<&StateOwners>, AllocError> {
+        if operands <= FEW || self.sets.len() <= FEW {
+            return Ok(None);
+        }
+        if self.owners.get().is_none() {
+            let _ = self.owners.set(owners_of(alloc, self.sets.as_slice())?);
+        }
+        Ok(self.owners.get())
+    }
+
+    /// Whether one of the operands, asked about after the action (true) or before it, is found to
+    /// be a set that lists the state of these atoms.
+    pub(crate) fn finds_owner<A: Sought>(
+        &self,
+        owners: &StateOwners,
         operands: &NamedSets<'_>,
         after: bool,
         held: &A,
         atoms: u32,
-    ) -> Option<bool>
+    ) -> bool
         requires over { AreListsOver self.now atoms }
         requires below { IsBelow atoms (A.has held.now) }
-        ensures { IfSome result (λ yes. (state : List Bool) → length state ≡ atoms
-            → IsSetOf (A.has held.now) state
-            → IsTrue yes ↔ IsOwned self.now operands.now after state) }
+        ensures { IsTrue result → (state : List Bool) → length state ≡ atoms
+            → IsSetOf (A.has held.now) state → IsOwned self.now operands.now after state }
     {
-        find_owner(
-            &self.owners,
-            self.sets.as_slice(),
-            operands,
-            after,
-            held,
-            atoms,
-        )
+        finds_owner(owners, self.sets.as_slice(), operands, after, held, atoms)
+    }
+}
+
+// Enters the states of a set that is to be the last one, where those of the others are entered.
+// Where they can't be, all are to be entered anew.
+fn take_in(
+    owners: &mut OnceCell<StateOwners>,
+    sets: &[Explicit],
+    last: &Explicit,
+) -> Result<(), AllocError> {
+    if !is_taken_in(owners, sets, last)? {
+        *owners = OnceCell::new();
+    }
+    Ok(())
+}
+
+// The same, but answers false where they can't be.
+fn is_taken_in(
+    owners: &mut OnceCell<StateOwners>,
+    sets: &[Explicit],
+    last: &Explicit,
+) -> Result<bool, AllocError> {
+    match owners.get_mut() {
+        Some(owners) => enter_set(owners, sets, last, sets.len()),
+        None => Ok(true),
     }
 }
 

@@ -2,8 +2,8 @@
 //!
 //! A state takes a bit for each atom of its task while it is worked on. A listed state takes four
 //! bytes for each of its atoms and four for its end; where no earlier one is the same, some 20 to
-//! 30 to be found by its code, but nothing in a set of at most two; and once more some 25 where its
-//! set is in a store of more than four.
+//! 30 to be found by its code, but nothing in a set of at most two; and once more some 25 from the
+//! first query with more than four negative operands on, in a store of more than four sets.
 #![tactic(auto)]
 
 mod action_bits;

@@ -39,10 +39,11 @@ use crate::explicit::Explicit;
 use crate::explicits::Explicits;
 use crate::firsts::PLAIN;
 use crate::holders::SomePlaces;
-use crate::named_sets::{FEW, NamedSets};
+use crate::named_sets::NamedSets;
 use crate::near::names_each;
 use crate::results::is_left;
 use crate::sought::{ActionResult, Coded, SomeState, Sought};
+use crate::state_owners::StateOwners;
 use crate::state_word::StateWord;
 use hv_sets::{Finding, Operand, Query, StateBuffer, Which};
 use hv_task::{Action, State, Task};
@@ -59,6 +60,8 @@ pub(crate) struct SetsQuery<'a> {
     asks_before: bool,
     // The negative operands.
     named: NamedSets<'a>,
+    // Which sets list a state, where the negative operands are many.
+    owners: Option<&'a StateOwners>,
     // The action, where there are at most 64 atoms.
     bits: Option<ActionBits<'a>>,
 }
@@ -96,6 +99,7 @@ impl<'a> SetsQuery<'a> {
         let after = query.action.is_some();
         let states = first_len(sets, query.positive.as_slice());
         let named = NamedSets::new(alloc, &query.negative, after, states, sets.len())?;
+        let owners = sets.owners_for(alloc, query.negative.len())?;
         let asks_before = ask_before(query.negative.as_slice());
         let bits = bits_of(task, query.action);
         Ok(SetsQuery {
@@ -104,6 +108,7 @@ impl<'a> SetsQuery<'a> {
             query,
             asks_before,
             named,
+            owners,
             bits,
         })
     }
@@ -198,16 +203,20 @@ impl<'a> SetsQuery<'a> {
         self.query.negative.names(which, after)
     }
 
-    // Whether one of the negative operands, asked about after the action (true) or before it, is a
-    // set that lists the state; or none, where it is no dearer to go through the operands.
-    fn find_owner<A: Sought>(&self, held: &A, after: bool) -> Option<bool>
+    // Which sets list a state, where the negative operands are many.
+    fn owners(&self) -> Option<&'a StateOwners> {
+        self.owners
+    }
+
+    // Whether one of the negative operands, asked about after the action (true) or before it, is
+    // found to be a set that lists the state.
+    fn finds_owner<A: Sought>(&self, owners: &StateOwners, held: &A, after: bool) -> bool
         requires { IsBelow (atoms self.now.task) (A.has held.now) }
-        ensures { IfSome result (λ yes. (state : List Bool)
-            → HasJust self.now.task (A.has held.now) state
-            → IsTrue yes ↔ IsOwned self.now.sets self.now.query.negative after state) }
+        ensures { IsTrue result → (state : List Bool) → HasJust self.now.task (A.has held.now) state
+            → IsOwned self.now.sets self.now.query.negative after state }
     {
         self.sets
-            .find_owner(&self.named, after, held, self.task.atoms())
+            .finds_owner(owners, &self.named, after, held, self.task.atoms())
     }
 }
 
@@ -450,32 +459,49 @@ impl SetsQuery<'_> {
             → HasJust self.now.task (A.has after.now) a
             → result ≡ is_in_none self.now b a }
     {
+        if self.is_owned(before, after) {
+            return false;
+        }
         !self.is_hit(before, false) && (!self.acts() || !self.is_hit(after, true))
     }
 
+    // Whether a negative operand is found that has one of the states, without going through many.
+    fn is_owned<B: Sought, A: Sought>(&self, before: &B, after: &A) -> bool
+        requires before { IsBelow (atoms self.now.task) (B.has before.now) }
+        requires after { IsBelow (atoms self.now.task) (A.has after.now) }
+        ensures { (b a : List Bool) → HasJust self.now.task (B.has before.now) b
+            → HasJust self.now.task (A.has after.now) a
+            → IsTrue result → is_in_none self.now b a ≡ false }
+    {
+        let Some(owners) = self.owners() else {
+            return false;
+        };
+        self.is_found(owners, before, false) || (self.acts() && self.is_found(owners, after, true))
+    }
+
     // Whether a negative operand that is asked about after the action (true) or before it (false)
-    // has the state. Few operands are gone through. Of many only those are asked about that name a
-    // set that lists the state, if such sets are fewer.
+    // is found to have the state: a set that lists it, or one of the two that list nothing.
+    fn is_found<A: Sought>(&self, owners: &StateOwners, held: &A, after: bool) -> bool
+        requires { IsBelow (atoms self.now.task) (A.has held.now) }
+        ensures { (state : List Bool) → HasJust self.now.task (A.has held.now) state
+            → IsTrue result → IsHit self.now self.now.query.negative after state }
+    {
+        if !self.asks(after) {
+            return false;
+        }
+        self.finds_owner(owners, held, after)
+            || self.is_hit_by(Which::Start, held, after)
+            || self.is_hit_by(Which::Goal, held, after)
+    }
+
+    // Whether a negative operand that is asked about after the action (true) or before it (false)
+    // has the state.
     fn is_hit<A: Sought>(&self, held: &A, after: bool) -> bool
         requires { IsBelow (atoms self.now.task) (A.has held.now) }
         ensures { (state : List Bool) → HasJust self.now.task (A.has held.now) state
             → IsTrue result ↔ IsHit self.now self.now.query.negative after state }
     {
-        if !self.asks(after) {
-            return false;
-        }
-        let operands = self.negative();
-        if operands.len() <= FEW {
-            return self.is_hit_among(operands, held, after);
-        }
-        match self.find_owner(held, after) {
-            Some(owned) => {
-                owned
-                    || self.is_hit_by(Which::Start, held, after)
-                    || self.is_hit_by(Which::Goal, held, after)
-            }
-            None => self.is_hit_among(operands, held, after),
-        }
+        self.asks(after) && self.is_hit_among(self.negative(), held, after)
     }
 
     fn is_hit_among<A: Sought>(&self, operands: &[Operand], held: &A, after: bool) -> bool

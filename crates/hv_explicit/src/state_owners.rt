@@ -1,21 +1,19 @@
 //! Which sets list a state.
 //!
 //! A query with many negative operands asks the sets that list the state: the entries under its
-//! code, each tested by its own set; after as many entries as there are operands it goes through
-//! the operands instead. Entries are complete and need not be sound, so an `add` that ran out of
-//! memory leaves nothing to undo. While a store has at most four sets, none of their states is
-//! entered: going through the sets is no dearer. The number of sets is bounded by nothing but
-//! memory; where all sets together have more states than 32 bits count, such a search goes through
-//! the operands.
+//! code, each tested by its own set. What is found so is a hit. Where nothing is found all operands
+//! are gone through, and that is so of a counterexample alone, which ends the search, or where more
+//! sets list the state than there are operands. So no answer depends on what is entered, and the
+//! entries can be made behind a shared reference: by the first query with many negative operands,
+//! asked of a store of more than four sets. From then on each set that is added is entered. The
+//! number of sets is bounded by nothing but memory; where all sets together have more states than
+//! 32 bits count, nothing is entered.
 
-ghost use Rattle.std.specs.Prelude.{◌≡◌, ◌<◌, ◌≤◌, ◌^◌, ◌++◌, ◌∷◌, ◌↔◌, ℕ, Bool, List, [], length};
-ghost use Rattle.std.specs.Prelude.{slice_index_or, true, IsTrue, IfOk, IfSome, OnOk, OnErr};
-ghost use Rattle.std.specs.List.{All};
-ghost use Rattle.hv_task.specs.State.{AreBelow, names_atom};
+ghost use Rattle.std.specs.Prelude.{◌≡◌, ◌↔◌, Bool, List, length, IsTrue};
+ghost use Rattle.hv_task.specs.State.{AreBelow};
 ghost use Rattle.hv_explicit.specs.Codes.{IsBelow, IsSetOf};
 ghost use Rattle.hv_explicit.specs.ListedStates.{AreListsOver};
-ghost use Rattle.hv_explicit.specs.Working.Owners.{AreListings, IsEntered, IsOwned, IsOwner};
-ghost use Rattle.hv_explicit.specs.Working.Owners.{IsOwnerIndex, KeepsEntries};
+ghost use Rattle.hv_explicit.specs.Working.Owners.{AreListings, IsOwned, IsOwner};
 ghost use Rattle.hv_explicit.specs.Working.SomeStates.{state_atoms};
 
 use crate::coding::{Coding, can_meet, code_by, tells_apart};
@@ -25,9 +23,6 @@ use crate::places::Places;
 use crate::sought::{SomeState, Sought};
 use hv_sets::StateBuffer;
 use std::alloc::{AllocError, Global};
-
-// With so few sets none of their states is entered: to go through the sets is no dearer.
-const FEW: usize = 4;
 
 /// A listed state: the number of a set, and a place in its list.
 #[derive(Clone, Copy)]
@@ -39,122 +34,69 @@ pub(crate) struct ListedAt {
 /// The states of all sets, to find by a state the sets that list it.
 #[derive(Drop)]
 pub(crate) struct StateOwners {
-    /// Whether the states of all sets are entered.
-    pub known: bool,
     /// How they are coded: by sums, unless two states have one or a set has its second key.
-    pub coding: Coding,
-    pub entries: Vec<ListedAt>,
+    coding: Coding,
+    entries: Vec<ListedAt>,
     /// The codes of the entries.
-    pub codes: Places,
+    codes: Places,
 }
 
 impl StateOwners {
-    /// Nothing is entered.
-    fn new(alloc: Global, known: bool, coding: Coding) -> StateOwners
-        ensures known { result.known ≡ known }
-        ensures coding { result.coding ≡ coding }
-        ensures entries { result.entries.items ≡ [] }
-        ensures codes { result.codes ≡ [] }
-    {
+    // Nothing is entered.
+    fn new(alloc: Global, coding: Coding) -> StateOwners {
         StateOwners {
-            known,
             coding,
             entries: Vec::new(alloc),
             codes: Places::new(alloc),
         }
     }
+}
 
-    /// What is known of a store without sets: nothing, until there are more than a few.
-    pub(crate) fn unknown(alloc: Global) -> StateOwners
-        ensures { IsOwnerIndex result [] }
-    {
-        StateOwners::new(alloc, false, Coding::Sips)
+/// The states of these sets: by sums, or else by SipHashes. There are none where they are more than
+/// 4,294,967,295.
+pub(crate) fn owners_of(alloc: Global, sets: &[Explicit]) -> Result<StateOwners, AllocError> {
+    if let Some(last) = sets.last() {
+        if let Some(owners) = owners_by(alloc, Coding::Sums(last.key()), sets)? {
+            return Ok(owners);
+        }
+    }
+    match owners_by(alloc, Coding::Sips, sets)? {
+        Some(owners) => Ok(owners),
+        None => Ok(StateOwners::new(alloc, Coding::Sips)),
     }
 }
 
-/// Takes in the states of one set more, the last one. After running out of memory what was known of
-/// the others still is. Of more than 4,294,967,296 sets nothing is known.
-pub(crate) fn take_in(
-    alloc: Global,
-    owners: &mut StateOwners,
-    sets: &[Explicit],
-    last: &Explicit,
-) -> Result<(), AllocError>
-    requires owners { IsOwnerIndex owners.old sets.now }
-    ensures ok { OnOk result (IsOwnerIndex owners.new (sets.now ++ last.now ∷ [])) }
-    ensures err { OnErr result (IsOwnerIndex owners.new sets.now) }
-{
-    if sets.len() > u32::MAX as usize {
-        owners.known = false;
-        return Ok(());
-    }
-    if !owners.known && sets.len() != FEW {
-        return Ok(());
-    }
-    if enter_set(owners, sets, last, sets.len() as u32)? {
-        return Ok(());
-    }
-    *owners = owners_of(alloc, sets, last)?;
-    Ok(())
-}
-
-// The states of these sets and the last one: by sums, or else by SipHashes. They stay unknown where
-// there are more than 4,294,967,295.
-fn owners_of(alloc: Global, sets: &[Explicit], last: &Explicit) -> Result<StateOwners, AllocError>
-    requires { length sets.now < 2 ^ 32 }
-    ensures { IfOk result (λ owners. IsOwnerIndex owners (sets.now ++ last.now ∷ [])) }
-{
-    let owners = owners_by(alloc, Coding::Sums(last.key()), sets, last)?;
-    if owners.known {
-        return Ok(owners);
-    }
-    owners_by(alloc, Coding::Sips, sets, last)
-}
-
-// The same by one coding. They stay unknown where two states have one code.
+// The same by one coding, unless two states have one code.
 fn owners_by(
     alloc: Global,
     coding: Coding,
     sets: &[Explicit],
-    last: &Explicit,
-) -> Result<StateOwners, AllocError>
-    requires { length sets.now < 2 ^ 32 }
-    ensures { IfOk result (λ owners. IsOwnerIndex owners (sets.now ++ last.now ∷ [])) }
-{
-    let mut owners = StateOwners::new(alloc, true, coding);
+) -> Result<Option<StateOwners>, AllocError> {
+    let mut owners = StateOwners::new(alloc, coding);
     for number in 0..sets.len() {
-        if !enter_set(&mut owners, sets, &sets[number], number as u32)? {
-            return Ok(StateOwners::new(alloc, false, coding));
+        if !enter_set(&mut owners, sets, &sets[number], number)? {
+            return Ok(None);
         }
     }
-    if !enter_set(&mut owners, sets, last, sets.len() as u32)? {
-        return Ok(StateOwners::new(alloc, false, coding));
-    }
-    Ok(owners)
+    Ok(Some(owners))
 }
 
-// Enters the states of a set, by the places of the first ones. Answers false where they can't all
-// be told apart by their codes; then, and after running out of memory, some of them may be entered.
-fn enter_set(
+/// Enters the states of the set of this number, by the places of the first ones. Answers false
+/// where they can't all be told apart by their codes, or there are too many; then some of them may
+/// be entered.
+pub(crate) fn enter_set(
     owners: &mut StateOwners,
     sets: &[Explicit],
     set: &Explicit,
-    number: u32,
-) -> Result<bool, AllocError>
-    requires { length owners.old.codes ≤ length owners.old.entries.items }
-    ensures known { owners.new.known ≡ owners.old.known }
-    ensures keeps { KeepsEntries owners.old owners.new }
-    ensures size { length owners.new.codes ≤ length owners.new.entries.items }
-    ensures ok { IfOk result (λ whole. whole ≡ true
-        → All (λ held. IsEntered owners.new number set.now.states held) set.now.states) }
-{
-    if !owners.known || !tells_apart(owners.coding, set.key()) {
+    number: usize,
+) -> Result<bool, AllocError> {
+    if number > u32::MAX as usize || !tells_apart(owners.coding, set.key()) {
         return Ok(false);
     }
     let mut buffer = StateBuffer::new();
     for place in set.firsts() {
         let entry = ListedAt {
-            set: number,
+            set: number as u32,
             place: *place,
         };
         let state = set.at(*place as usize, &mut buffer);
@@ -173,15 +115,7 @@ fn enter_some(
     state: SomeState<'_>,
     atoms: u32,
 ) -> Result<bool, AllocError>
-    requires size { length owners.old.codes ≤ length owners.old.entries.items }
-    requires below { AreBelow atoms (state_atoms state) }
-    ensures known { owners.new.known ≡ owners.old.known }
-    ensures keeps { KeepsEntries owners.old owners.new }
-    ensures size { length owners.new.codes ≤ length owners.new.entries.items }
-    ensures ok { IfOk result (λ done. done ≡ true
-        → (states : List (List ℕ)) → entry.place < length states
-        → names_atom (state_atoms state.entry) ≡ names_atom (slice_index_or states entry.place [])
-        → IsEntered owners.new entry.set states (slice_index_or states entry.place [])) }
+    requires { AreBelow atoms (state_atoms state) }
 {
     match state {
         SomeState::Listed(state) => enter(owners, sets, entry, &state, atoms),
@@ -197,15 +131,7 @@ fn enter<A: Sought>(
     state: &A,
     atoms: u32,
 ) -> Result<bool, AllocError>
-    requires size { length owners.old.codes ≤ length owners.old.entries.items }
-    requires below { IsBelow atoms (A.has state.now) }
-    ensures known { owners.new.known ≡ owners.old.known }
-    ensures keeps { KeepsEntries owners.old owners.new }
-    ensures size { length owners.new.codes ≤ length owners.new.entries.items }
-    ensures ok { IfOk result (λ done. done ≡ true
-        → (states : List (List ℕ)) → entry.place < length states
-        → A.has state.now ≡ names_atom (slice_index_or states entry.place [])
-        → IsEntered owners.new entry.set states (slice_index_or states entry.place [])) }
+    requires { IsBelow atoms (A.has state.now) }
 {
     let code = code_by(owners.coding, state, atoms);
     if owners.codes.len() >= u32::MAX as usize || meets_other(owners, sets, code, state, atoms) {
@@ -243,39 +169,35 @@ fn meets_other<A: Sought>(
     set.atoms() == atoms && !set.has_state_at(entry.place as usize, state)
 }
 
-/// Whether one of the operands, asked about after the action (true) or before it, is a set that
-/// lists the state of these atoms; or none, which says nothing, where more sets list it than there
-/// are operands, and where the sets are few.
-pub(crate) fn find_owner<A: Sought>(
+/// Whether one of the operands, asked about after the action (true) or before it, is found to be a
+/// set that lists the state of these atoms. It is looked for among as many entries as there are
+/// operands.
+pub(crate) fn finds_owner<A: Sought>(
     owners: &StateOwners,
     sets: &[Explicit],
     operands: &NamedSets<'_>,
     after: bool,
     held: &A,
     atoms: u32,
-) -> Option<bool>
+) -> bool
     requires listed { AreListings sets.now }
-    requires index { IsOwnerIndex owners.now sets.now }
     requires over { AreListsOver sets.now atoms }
     requires below { IsBelow atoms (A.has held.now) }
-    ensures { IfSome result (λ yes. (state : List Bool) → length state ≡ atoms
-        → IsSetOf (A.has held.now) state → IsTrue yes ↔ IsOwned sets.now operands.now after state) }
+    ensures { IsTrue result → (state : List Bool) → length state ≡ atoms
+        → IsSetOf (A.has held.now) state → IsOwned sets.now operands.now after state }
 {
-    if !owners.known {
-        return None;
-    }
     let code = code_by(owners.coding, held, atoms);
     let mut rest = owners.codes.last(code);
-    'entries: for _ in 0..operands.len() {
-        if rest == 0 {
-            return Some(false);
+    for _ in 0..operands.len() {
+        if rest == 0 || rest > owners.entries.len() {
+            return false;
         }
         if is_owner(sets, operands, after, owners.entries[rest - 1], held, atoms) {
-            return Some(true);
+            return true;
         }
         rest = owners.codes.earlier(rest - 1);
     }
-    None
+    false
 }
 
 // Whether the entry is of a set that the operands name, and its state has just these atoms.

@@ -1,59 +1,22 @@
--- Which sets list a state: entries by code.
-use Rattle.std.specs.Prelude.{◌≡◌, ◌<◌, ◌≤◌, ◌↔◌, ℕ, Bool, true, List, [], length, slice_get}
+-- Which sets list a state.
+use Rattle.std.specs.Prelude.{◌≡◌, ◌<◌, ◌↔◌, ℕ, Bool, true, List, [], length, slice_get}
 use Rattle.std.specs.Prelude.{slice_index_or, Some}
 use Rattle.std.specs.List.{All}
-use Rattle.hv_task.specs.State.{has_atom, names_atom}
+use Rattle.hv_task.specs.State.{has_atom}
 use Rattle.hv_sets.specs.Names.{AsksAbout}
 use Rattle.hv_sets.specs.declared.operand.Operand.{Operand}
 use Rattle.hv_sets.specs.declared.operand.Which.TheVariants as W
 use Rattle.hv_explicit.specs.Working.Codes.{IsSame}
-use Rattle.hv_explicit.specs.Working.Coding.{IsCodeBy}
 use Rattle.hv_explicit.specs.ListedStates.{AreRising, AreStates, ListedStates, in_set}
-use Rattle.hv_explicit.specs.Working.Places.{code_at}
 use Rattle.hv_explicit.specs.declared.state_owners.ListedAt.{ListedAt}
-use Rattle.hv_explicit.specs.declared.state_owners.StateOwners.{StateOwners}
-
--- the entry at a place
-abbrev pub entry_at : List ListedAt → ℕ → ListedAt
-entry_at entries e = slice_index_or entries e (record { set = 0; place = 0 })
 
 -- the state of an entry of a set that lists these
 abbrev pub state_of_entry : List (List ℕ) → ListedAt → List ℕ
 state_of_entry states entry = slice_index_or states entry.place []
 
--- there is an entry of the set for this state, under its code
-abbrev pub IsEntered : StateOwners → ℕ → List (List ℕ) → List ℕ → Type 0
-IsEntered owners number states held =
-    (e : ℕ) × (e < length owners.codes) × ((entry_at owners.entries.items e).set ≡ number)
-    × ((entry_at owners.entries.items e).place < length states)
-    × (state_of_entry states (entry_at owners.entries.items e) ≡ held)
-    × IsCodeBy owners.coding (names_atom held) (code_at owners.codes e)
-
--- what was entered still is
-abbrev pub KeepsEntries : StateOwners → StateOwners → Type 0
-KeepsEntries old new =
-    (number : ℕ) (states : List (List ℕ)) (held : List ℕ)
-    → IsEntered old number states held → IsEntered new number states held
-
--- each state of each set is entered; there may be more entries
-abbrev pub AreEntered : StateOwners → List ListedStates → Type 0
-AreEntered owners sets =
-    (number : ℕ) (set : ListedStates) → slice_get sets number ≡ Some set
-    → All (λ held. IsEntered owners number set.states held) set.states
-
--- the states of the sets are entered where they are known
-pub record IsOwnerIndex (owners : StateOwners) (sets : List ListedStates) : Type 0 where
-  pub entered : owners.known ≡ true → AreEntered owners sets
-  pub size : length owners.codes ≤ length owners.entries.items
-
 -- the states of the sets are states of their tasks, by lists that rise
 abbrev pub AreListings : List ListedStates → Type 0
 AreListings sets = All (λ set. AreStates set.atoms set.states × AreRising set.states) sets
-
--- what a store of sets keeps
-pub record IsStore (sets : List ListedStates) (owners : StateOwners) : Type 0 where
-  pub listed : AreListings sets
-  pub index : IsOwnerIndex owners sets
 
 -- the entry is of a set that these operands name, asked about after the action or before it, and
 -- its state has just these atoms

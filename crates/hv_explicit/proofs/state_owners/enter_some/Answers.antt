@@ -6,14 +6,14 @@ use Rattle.hv_explicit.specs.declared.sought.SomeState.{SomeState}
 use Rattle.hv_explicit.proofs.Clashes.{below_list}
 use Rattle.hv_explicit.proofs.state_owners.enter_some.Goals as goal
 
-pub enter-requires-clause-below : goal.enter-requires-clause-below
-enter-requires-clause-below c =
+pub enter-requires : goal.enter-requires
+enter-requires c =
     below_list c.args.atoms c.in-Listed.state.atoms.now
     (subst (λ (s : SomeState). AreBelow c.args.atoms (state_atoms s)) c.in-Listed.is
-    c.requires.below)
+    c.requires)
 
-pub enter-requires-in-Word-clause-below : goal.enter-requires-in-Word-clause-below
-enter-requires-in-Word-clause-below c =
+pub enter-requires-in-Word : goal.enter-requires-in-Word
+enter-requires-in-Word c =
     below_list c.args.atoms (word_atoms c.in-Word.state.bits)
     (subst (λ (s : SomeState). AreBelow c.args.atoms (state_atoms s)) c.in-Word.is
-    c.requires.below)
+    c.requires)
