@@ -135,6 +135,49 @@ made_left held add del adds dels p = by (names_atom add p) (names_atom del p) re
         ((names_atom-Decides held p).0 e)))))
     by false false is_a is_d = made_untouched add del held p is_a is_d
 
+-- where a list has all that is added, beside it only what was held, and of what was held all that
+-- isn't deleted, and of what is deleted only what is added, it is what the effect makes
+pub made_changed : (list held add del : List ℕ) → All (λ p. Contains list p) add
+    → All (λ p. Contains held p ⊎ Contains add p) list
+    → All (λ p. Contains list p ⊎ Contains del p) held
+    → All (λ p. Contains list p → Contains add p) del → (p : ℕ)
+    → made add del held p ≡ names_atom list p
+made_changed list held add del adds listed kept dels p =
+    by (names_atom add p) (names_atom del p) refl refl
+  where
+    same : names_atom add p ≡ false → names_atom del p ≡ false
+        → names_atom held p ≡ names_atom list p
+    same is_a is_d =
+        same_from_decides {P = Contains list p} (names_atom held p) (names_atom list p) (
+          λ e. elim (All-contains (λ q. Contains list q ⊎ Contains del q) held p kept
+              ((names_atom-Decides held p).0 e)) [
+                | inl is ↦ is
+                | inr gone ↦ absurd (both_ways (names_atom del p) is_d
+                    ((names_atom-Decides del p).1 gone))
+              ],
+          λ c. elim (All-contains (λ q. Contains held q ⊎ Contains add q) list p listed c) [
+            | inl is ↦ (names_atom-Decides held p).1 is
+            | inr new ↦ absurd (both_ways (names_atom add p) is_a
+                ((names_atom-Decides add p).1 new))
+          ],
+        )
+        ((names_atom-Decides list p).0, (names_atom-Decides list p).1)
+
+    by : (a d : Bool) → names_atom add p ≡ a → names_atom del p ≡ d
+        → made add del held p ≡ names_atom list p
+    by true d is_a is_d =
+        ap (λ b. b || (not (names_atom del p) && names_atom held p)) is_a
+        ∙ sym ((names_atom-Decides list p).1 (All-contains (λ q. Contains list q) add p adds
+        ((names_atom-Decides add p).0 is_a)))
+    by false true is_a is_d =
+        made_touched add del held p (inr is_d) ∙ is_a
+        ∙ sym (false_from_ne_true (names_atom list p) (λ e.
+        both_ways (names_atom add p) is_a ((names_atom-Decides add p).1
+        (All-contains (λ q. Contains list q → Contains add q) del p dels
+        ((names_atom-Decides del p).0 is_d)
+        ((names_atom-Decides list p).0 e)))))
+    by false false is_a is_d = made_untouched add del held p is_a is_d ∙ same is_a is_d
+
 module _ (list held add del : List ℕ) (list_rises : IsStrictlyIncreasing list)
     (held_rises : IsStrictlyIncreasing held) (add_rises : IsStrictlyIncreasing add)
     (del_rises : IsStrictlyIncreasing del) where

@@ -137,6 +137,23 @@ fn put_in(key: u64, code: u64, held: &[u32], atom: u32, near: &mut usize) -> u64
     code.wrapping_add(number(key, atom))
 }
 
+/// How much more the code of the action's result is than that of the state, if the action deletes
+/// just what its precondition names and adds what isn't held.
+pub(crate) fn likely_shift(key: u64, action: &Action) -> u64 {
+    let mut shift: u64 = 0;
+    for atom in action.del.as_slice() {
+        if named(action.pre.as_slice(), *atom) && !named(action.add.as_slice(), *atom) {
+            shift = shift.wrapping_sub(number(key, *atom));
+        }
+    }
+    for atom in action.add.as_slice() {
+        if !named(action.pre.as_slice(), *atom) {
+            shift = shift.wrapping_add(number(key, *atom));
+        }
+    }
+    shift
+}
+
 // The number of an atom by this key.
 #[tactic(auto, unfolding(crate::specs::Working::Codes::weight))]
 fn number(key: u64, atom: u32) -> u64

@@ -8,7 +8,7 @@
 
 ghost use Rattle.std.specs.Prelude.{◌≡◌, ◌<◌, ◌-◌, ◌^◌, ℕ, Bool, List, [], length, map, min, drop};
 ghost use Rattle.std.specs.Prelude.{slice_index_or, IsTrue, IfOk, IfSome, OnOk};
-ghost use Rattle.std.specs.Prelude.{⊤, ◌↔◌};
+ghost use Rattle.std.specs.Prelude.{⊤, ◌↔◌, true};
 ghost use Rattle.std.specs.List.Sorted.{IsStrictlyIncreasing};
 ghost use Rattle.hv_task.specs.State.{AreBelow};
 ghost use Rattle.hv_task.specs.Strips.{atoms};
@@ -26,8 +26,12 @@ ghost use Rattle.hv_explicit.specs.Working.SomeStates.{IsOfFew, state_atoms};
 ghost use Rattle.hv_explicit.specs.Working.Laws as laws;
 
 use crate::holders::SomePlaces;
+use crate::made::is_found_result;
 use crate::sought::{ActionResult, Coded, ReadInOrder, SomeState, Sought};
-use crate::state_index::{StateIndex, firsts_in, held_in, index_of, is_in, lists_in, state_in};
+use crate::state_index::{
+    StateIndex, firsts_in, held_in, index_of, is_in, kept_code, lists_in, place_in, start_in,
+    state_in,
+};
 use hv_sets::{Cube, Cursor, Inside, ListedState, Literal, Scratch, StateBuffer, StateList, StateSet};
 use hv_sets::Step;
 use hv_task::{Action, Atoms, State, Task, names_atom};
@@ -168,6 +172,41 @@ impl Explicit {
             return false;
         }
         is_in(&self.index, &self.states, place, held, self.atoms)
+    }
+
+    /// Whether the state at this place is what the action makes of the state of these atoms.
+    /// The buffer may give the space for the state.
+    pub(crate) fn has_result_at(
+        &self,
+        place: usize,
+        held: &[u32],
+        action: &Action,
+        buffer: &mut StateBuffer,
+    ) -> bool
+        requires { IsBelow self.now.atoms (is_after action.now held.now) }
+        ensures { IsTrue result → (state : List Bool) → length state ≡ self.now.atoms
+            → IsSetOf (is_after action.now held.now) state → in_listing self.now state ≡ true }
+    {
+        let states = self.states();
+        if place >= states.len() {
+            return false;
+        }
+        is_found_result(states.get(place).slice(buffer), held, action)
+    }
+
+    /// The code of the state at this place, where one is kept, and else 0.
+    pub(crate) fn code_at(&self, place: usize) -> u64 {
+        kept_code(&self.index, &self.states, place)
+    }
+
+    /// Where the chain of a code starts.
+    pub(crate) fn start_of(&self, code: u64) -> usize {
+        start_in(&self.index, code)
+    }
+
+    /// The place of a state of this code, if it is found by where its chain starts.
+    pub(crate) fn place_from(&self, start: usize, code: u64) -> Option<u32> {
+        place_in(&self.index, start, code)
     }
 
     /// The atoms of the state at this place, rising.

@@ -221,6 +221,26 @@ pub(crate) fn word_anew(states: &StateList, place: usize) -> u64
     word_of_list(states.get(place).slice(&mut buffer))
 }
 
+/// The code of the state at a place, or 0 where it is the same as an earlier one.
+pub(crate) fn code_at(states: &StateList, firsts: &Firsts, place: usize) -> u64 {
+    if firsts.places.len() == states.len() {
+        return firsts.codes.code_or_none(place);
+    }
+    match entry_of(firsts.places.as_slice(), place) {
+        Some(entry) => firsts.codes.code_or_none(entry),
+        None => 0,
+    }
+}
+
+/// The place of a state of this code, if it is found by where the chain of its slot starts.
+pub(crate) fn place_from(firsts: &Firsts, start: usize, code: u64) -> Option<u32> {
+    let entry = firsts.codes.place_from(start, code)?;
+    match firsts.places.get(entry) {
+        Some(place) => Some(*place),
+        None => None,
+    }
+}
+
 // The entry of a place, if it is found: without repeats before it it is the place itself.
 fn entry_of(places: &[u32], place: usize) -> Option<usize>
     ensures { IfSome result (λ entry. (entry < length places.now)

@@ -1,9 +1,9 @@
 //! Which sets the operands of a query name, by a flag for each set.
 //!
 //! A query asks this for each state that it finds in some set. The flags are made once for it, for
-//! the side that it asks about most, where its operands are more than 4, the sets at most 64 times
-//! as many, and the states of which it asks at least 16 times as many; else the operands are looked
-//! up.
+//! the side that it asks about most, where the states of which it asks are 16 times as many as its
+//! operands, these are more than 4 or the states 1,024, and the flags are no more words than one of
+//! the two; else the operands are looked up.
 
 ghost use Rattle.std.specs.Prelude.{◌≡◌, ◌<◌, ◌⊎◌, ◌↔◌, ℕ, IsTrue, IfOk, length, false, true};
 ghost use Rattle.hv_task.specs.State.{has_atom};
@@ -18,6 +18,9 @@ use std::marker::Model;
 
 /// To go through so many operands is no dearer than to look up the sets that list a state.
 pub(crate) const FEW: usize = 4;
+
+// So many states pay for flags of any operands.
+const MANY: usize = 1024;
 
 /// The operands of a query, with a flag for each set that they name on one side.
 #[derive(Drop)]
@@ -83,10 +86,10 @@ impl<'a> NamedSets<'a> {
 
 // For how many sets flags pay, where so many operands are asked about so many states.
 fn flagged(operands: usize, states: usize, sets: usize) -> u32 {
-    if operands <= FEW || operands > states / 16 {
+    if operands == 0 || operands > states / 16 || (operands <= FEW && states < MANY) {
         return 0;
     }
-    if sets / 64 > operands || sets > u32::MAX as usize {
+    if sets / 64 > operands.max(states / MANY) || sets > u32::MAX as usize {
         return 0;
     }
     sets as u32

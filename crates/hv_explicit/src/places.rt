@@ -127,6 +127,37 @@ impl Places {
         self.codes[place]
     }
 
+    /// Where the chain of the code's slot starts.
+    pub(crate) fn start_of(&self, code: u64) -> usize {
+        if self.heads.is_empty() {
+            return 0;
+        }
+        self.heads[slot_of(self.turn.factor, self.heads.len(), code)] as usize
+    }
+
+    /// A place that has this code, if it is found by where the chain of its slot starts.
+    pub(crate) fn place_from(&self, start: usize, code: u64) -> Option<usize> {
+        let mut end = start;
+        for _ in 0..LONG {
+            if end == 0 || end > self.codes.len() || end > self.before.len() {
+                return None;
+            }
+            if self.codes[end - 1] == code {
+                return Some(end - 1);
+            }
+            end = self.before[end - 1] as usize;
+        }
+        None
+    }
+
+    /// The code at a place, or 0 where there is none.
+    pub(crate) fn code_or_none(&self, place: usize) -> u64 {
+        match self.codes.get(place) {
+            Some(code) => *code,
+            None => 0,
+        }
+    }
+
     /// One more than the last place that has this code, or 0 where none has it.
     pub(crate) fn last(&self, code: u64) -> usize
         ensures { IsEnd (code_at self.now) code (length self.now) result }

@@ -61,8 +61,8 @@ pub(crate) fn is_left(held: &[u32], action: &Action) -> bool
     has_no_other(held, action.del.as_slice(), action.add.as_slice())
 }
 
-// Whether the list has none of these atoms but the others; all three rise.
-fn has_no_other(list: &[u32], atoms: &[u32], others: &[u32]) -> bool
+/// Whether the list has none of these atoms but the others; the list and the others rise.
+pub(crate) fn has_no_other(list: &[u32], atoms: &[u32], others: &[u32]) -> bool
     requires list { IsStrictlyIncreasing list.now }
     requires others { IsStrictlyIncreasing others.now }
     ensures { IsTrue result

@@ -6,8 +6,9 @@
 //! the rarest atom, less what isn't in the columns of the others or in rows that aren't much
 //! longer. Each of these costs the search for the precondition's atoms in its list, and then a
 //! look-up for each operand: the code of a result costs the effect, and a hit is compared atom by
-//! atom. With at most 64 atoms states are words, and all but the look-up are some steps on these
-//! (`action_bits`). The counterexample alone is written as a state.
+//! atom. Where the states are many it is guessed first where their results are (`guesses`). With at
+//! most 64 atoms states are words, and all but the look-up are some steps on these (`action_bits`).
+//! The counterexample alone is written as a state.
 
 ghost use Rattle.std.specs.Prelude.{◌≡◌, ◌<◌, ◌≤◌, ◌↔◌, ◌∷◌, ℕ, Bool, List, [], length, slice_index_or};
 ghost use Rattle.std.specs.Prelude.{slice_get, None, Some, false, true, IsTrue, IfOk, IfSome};
@@ -21,6 +22,7 @@ ghost use Rattle.hv_sets.specs.Names.{AsksAbout};
 ghost use Rattle.hv_sets.specs.Cost.{IsAnswer, StatesPass};
 ghost use Rattle.hv_sets.specs.Query.{CanAnchor, IsAnchor, IsNamed, Rises, action_of};
 ghost use Rattle.hv_sets.specs.declared.operand.Operand.{Operand};
+ghost use Rattle.hv_sets.specs.declared.operand.Which.TheVariants as W;
 ghost use Rattle.hv_explicit.specs.Codes.{IsBelow};
 ghost use Rattle.hv_explicit.specs.Working.Codes.{IsSame};
 ghost use Rattle.hv_explicit.specs.Working.Holders.{AreAllBut, listed_places};
@@ -38,17 +40,35 @@ use crate::action_bits::{ActionBits, bits_of};
 use crate::explicit::Explicit;
 use crate::explicits::Explicits;
 use crate::firsts::PLAIN;
+use crate::guesses::Guesses;
 use crate::holders::SomePlaces;
 use crate::named_sets::NamedSets;
 use crate::near::names_each;
 use crate::results::is_left;
 use crate::sought::{ActionResult, Coded, SomeState, Sought};
-use crate::state_owners::StateOwners;
+use crate::state_owners::{ListedAt, StateOwners};
 use crate::state_word::StateWord;
-use hv_sets::{Finding, Operand, Query, StateBuffer, Which};
+use hv_sets::{Finding, ListedState, Operand, Query, StateBuffer, Which};
 use hv_task::{Action, State, Task};
 use std::alloc::{AllocError, Global};
 use std::marker::Model;
+
+// Space for the atoms of a state of the anchor, and for those of a listed state.
+#[derive(Drop)]
+struct Spaces {
+    held: StateBuffer,
+    listed: StateBuffer,
+}
+
+impl Spaces {
+    // Both free.
+    fn new() -> Spaces {
+        Spaces {
+            held: StateBuffer::new(),
+            listed: StateBuffer::new(),
+        }
+    }
+}
 
 /// A query, with the task and the sets of which it is asked.
 #[derive(Drop)]
@@ -315,15 +335,97 @@ impl SetsQuery<'_> {
         if set.len() as u64 > budget {
             return Finding::Over;
         }
-        let mut buffer = StateBuffer::new();
+        let mut spaces = Spaces::new();
+        let mut guesses = self.guesses(set, places);
         for place in places {
-            let held = set.at(*place as usize, &mut buffer);
-            if self.some_clashes(anchor, held) {
-                state.hold(set.atoms_at(*place as usize).slice(&mut buffer));
+            let guess = guesses.next();
+            if self.is_clash_at(anchor, set, *place as usize, guess, &mut spaces) {
+                state.hold(set.atoms_at(*place as usize).slice(&mut spaces.held));
                 return Finding::Clash;
             }
         }
         Finding::Empty
+    }
+
+    // Whether the state at this place of the set, which is in what the anchor names, is a
+    // counterexample.
+    fn is_clash_at(
+        &self,
+        anchor: Which,
+        set: &Explicit,
+        place: usize,
+        guess: ListedAt,
+        spaces: &mut Spaces,
+    ) -> bool
+        requires atoms { set.now.atoms ≡ atoms self.now.task }
+        requires place { place < length set.now.states }
+        requires anchor { in_named self.now anchor
+            (state_of (atoms self.now.task) (slice_index_or set.now.states place [])) ≡ true }
+        ensures { result ≡ clashes_at self.now (slice_index_or set.now.states place []) }
+    {
+        if self.is_settled(guess, set.atoms_at(place), spaces) {
+            return false;
+        }
+        self.some_clashes(anchor, set.at(place, &mut spaces.held))
+    }
+
+    // Guesses where the results of the action in the states at these places are listed.
+    fn guesses<'b>(&'b self, set: &'b Explicit, places: &'b [u32]) -> Guesses<'b> {
+        match self.action() {
+            None => Guesses::none(set, places),
+            Some(action) => Guesses::of(
+                self.sets,
+                self.owners,
+                self.negative(),
+                action,
+                set,
+                places,
+            ),
+        }
+    }
+
+    // Whether the state of these atoms is no counterexample, because the state of the guess is what
+    // the action makes of it.
+    fn is_settled(&self, guess: ListedAt, held: ListedState<'_>, spaces: &mut Spaces) -> bool
+        requires { AreBelow (atoms self.now.task) held }
+        ensures { IsTrue result → clashes_at self.now held.entry ≡ false }
+    {
+        match self.action() {
+            None => false,
+            Some(action) => self.is_result_hit(guess, held, action, spaces),
+        }
+    }
+
+    // Whether the state of the guess is what the action makes of the state of these atoms, and its
+    // set is a negative operand that is asked about after the action.
+    fn is_result_hit(
+        &self,
+        guess: ListedAt,
+        held: ListedState<'_>,
+        action: &Action,
+        spaces: &mut Spaces,
+    ) -> bool
+        requires { IsBelow (atoms self.now.task) (is_after action.now held) }
+        ensures { IsTrue result → (state : List Bool)
+            → HasJust self.now.task (is_after action.now held.entry) state
+            → IsHit self.now self.now.query.negative true state }
+    {
+        let number = guess.set as usize;
+        if !self.names_set(number, true) {
+            return false;
+        }
+        let held = held.slice(&mut spaces.held);
+        self.set(number)
+            .has_result_at(guess.place as usize, held, action, &mut spaces.listed)
+    }
+
+    // Whether some negative operand is the set of this number, asked about after the action (true)
+    // or before it.
+    fn names_set(&self, number: usize, after: bool) -> bool
+        ensures asks { IsTrue result ↔ AsksAbout self.now.query.negative (W.Set number) after }
+        ensures named { IsTrue result → number < length self.now.sets }
+    {
+        self.named.names(number, after)
     }
 
     // Whether the state, which is in what the anchor names, is a counterexample, however it is

@@ -14,8 +14,10 @@ ghost use Rattle.hv_explicit.specs.Working.SomeStates.{IsOfFew, state_atoms};
 ghost use Rattle.hv_explicit.specs.Working.Words.{word_atoms};
 
 use crate::codes::{BITS, is_exact};
-use crate::firsts::{Firsts, coded_state, first_key, firsts_of, is_at, look_up, word_anew};
-use crate::firsts::word_of_state;
+use crate::firsts::{
+    Firsts, code_at, coded_state, first_key, firsts_of, is_at, look_up, place_from, word_anew,
+    word_of_state,
+};
 use crate::holders::{Holders, SomePlaces, holders_of, holding_all};
 use crate::sought::{Coded, SomeState, Sought};
 use crate::state_word::{StateWord, is_word};
@@ -307,4 +309,28 @@ fn coded_anew<'a>(
     ensures { result.atoms.now ≡ slice_index_or states.now place [] }
 {
     Coded::new(key, states.get(place).slice(buffer))
+}
+
+/// The code of the state at a place, where one is kept, and else 0.
+pub(crate) fn kept_code(index: &StateIndex, states: &StateList, place: usize) -> u64 {
+    match index {
+        StateIndex::Pair(_) => 0,
+        StateIndex::Many(many) => code_at(states, &many.firsts, place),
+    }
+}
+
+/// Where the chain of the code's slot starts.
+pub(crate) fn start_in(index: &StateIndex, code: u64) -> usize {
+    match index {
+        StateIndex::Pair(_) => 0,
+        StateIndex::Many(many) => many.firsts.codes.start_of(code),
+    }
+}
+
+/// The place of a state of this code, if it is found by where the chain of its slot starts.
+pub(crate) fn place_in(index: &StateIndex, start: usize, code: u64) -> Option<u32> {
+    match index {
+        StateIndex::Pair(_) => None,
+        StateIndex::Many(many) => place_from(&many.firsts, start, code),
+    }
 }

@@ -35,7 +35,7 @@ pub(crate) struct ListedAt {
 #[derive(Drop)]
 pub(crate) struct StateOwners {
     /// How they are coded: by sums, unless two states have one or a set has its second key.
-    coding: Coding,
+    pub coding: Coding,
     entries: Vec<ListedAt>,
     /// The codes of the entries.
     codes: Places,
@@ -48,6 +48,20 @@ impl StateOwners {
             coding,
             entries: Vec::new(alloc),
             codes: Places::new(alloc),
+        }
+    }
+
+    /// Where the chain of the code's slot starts.
+    pub(crate) fn start_of(&self, code: u64) -> usize {
+        self.codes.start_of(code)
+    }
+
+    /// An entry of this code, if it is found by where the chain of its slot starts.
+    pub(crate) fn entry_from(&self, start: usize, code: u64) -> Option<ListedAt> {
+        let entry = self.codes.place_from(start, code)?;
+        match self.entries.get(entry) {
+            Some(entry) => Some(*entry),
+            None => None,
         }
     }
 }
