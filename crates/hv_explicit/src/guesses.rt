@@ -160,7 +160,7 @@ impl Lead<'_> {
             return false;
         }
         match set.atoms_at(guess.place as usize).first() {
-            Some(atom) => *atom <= self.first,
+            Some(atom) => atom <= self.first,
             None => false,
         }
     }

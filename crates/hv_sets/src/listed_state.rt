@@ -1,6 +1,6 @@
 //! Listed states as they are kept: by their atoms, each in four bytes or in one.
 
-ghost use Rattle.std.specs.Prelude.{◌≡◌, ◌≤◌, length, take};
+ghost use Rattle.std.specs.Prelude.{◌≡◌, ◌≤◌, length, slice_get, take};
 ghost use Rattle.std.specs.List.Sorted.{IsStrictlyIncreasing};
 
 use std::marker::Model;
@@ -82,6 +82,19 @@ impl<'a> ListedState<'a> {
         }
     }
 
+    /// The least atom, where the state holds one.
+    pub fn first(&self) -> Option<u32>
+        ensures { result ≡ slice_get self.now 0 }
+    {
+        match self.kept {
+            Kept::Wide(atoms) => first_of(atoms),
+            Kept::Narrow(atoms) => match atoms.first() {
+                Some(atom) => Some(u32::from(*atom)),
+                None => None,
+            },
+        }
+    }
+
     /// The atoms as a slice, for which the buffer may give the space.
     pub fn slice<'b>(self, buffer: &'b mut StateBuffer) -> &'b [u32]
     where
@@ -96,6 +109,15 @@ impl<'a> ListedState<'a> {
                 &buffer.atoms[..atoms.len()]
             }
         }
+    }
+}
+
+fn first_of(atoms: &[u32]) -> Option<u32>
+    ensures { result ≡ slice_get atoms.now 0 }
+{
+    match atoms.first() {
+        Some(atom) => Some(*atom),
+        None => None,
     }
 }
 
