@@ -1,24 +1,29 @@
 -- Literals that are listed by rising atoms say what was known.
 use Rattle.std.proofs.Common.{◌≡◌, ℕ, ◌+◌, ◌<◌, ◌≤◌, ◌∙◌, Bool, true, not, cond, List, [], ◌∷◌}
 use Rattle.std.proofs.Common.{◌++◌, Some, None, length, replicate, get_or, sym, ap, arith, inl, inr}
-use Rattle.std.proofs.Common.{subst}
+use Rattle.std.proofs.Common.{slice_get}
+use Rattle.std.proofs.Common.{subst, ◌&&◌, ◌||◌, false, refl}
 use Rattle.std.proofs.lemmas.Bool.{cases_lt}
 use Rattle.std.proofs.lemmas.List.{length-map}
 use Rattle.std.proofs.lemmas.List.{map-append}
-use Rattle.std.proofs.lemmas.List.Elements.{All-push, All-weaker}
+use Rattle.std.proofs.lemmas.List.Elements.{All-cons, All-nil, All-push, All-weaker}
+use Rattle.std.proofs.lemmas.List.Elements.{Contains-get_or}
+use Rattle.std.proofs.lemmas.Option.{get_or_from_slice_get}
 use Rattle.std.specs.List.Sorted.{IsStrictlyIncreasing}
 use Rattle.std.specs.Option.{option_map}
 use Rattle.hv_sets.specs.declared.literal.Literal.{Literal}
 use Rattle.hv_sets.specs.Cubes.{atoms_of}
-use Rattle.hv_sets.specs.Truth.{in_clauses}
+use Rattle.hv_sets.specs.Truth.{in_clauses, in_literal}
 use Rattle.hv_sets.proofs.Cubes.{atom_at}
+use Rattle.hv_propagation.specs.Clauses.{AreClauses}
 use Rattle.hv_propagation.specs.Forced.{AreForced}
-use Rattle.hv_formula.specs.Working.Closure.{ListsBelow}
+use Rattle.hv_formula.specs.Working.Closure.{IsLone, ListsBelow}
 use Rattle.hv_propagation.specs.Marks.{known, Agrees}
 use Rattle.hv_propagation.specs.Trail.{Knowledge, marked, marks_of}
 use Rattle.hv_propagation.specs.Units.{IsSettled, first_of, value_of, AreSettled}
 use Rattle.hv_task.proofs.Listing.{rises-push}
-use Rattle.hv_propagation.proofs.Marked.{known_past}
+use Rattle.hv_propagation.proofs.Around.{forced_around}
+use Rattle.hv_propagation.proofs.Marked.{known_past, value_marked}
 use Rattle.hv_propagation.proofs.Trailed.{known-replicate, known-set_other, known-set_same}
 use Rattle.hv_propagation.proofs.Trailed.{length-marked, length-marks, written-push, written_none}
 
@@ -115,3 +120,53 @@ forced_from atoms clauses k ls wide rises same settled follows =
       follows = λ state size holds. agrees_same (marks_of k) (marked atoms ls) equal state
           (follows state size holds);
     }
+
+-- a clause of one literal forces that literal
+lone_forced : (atoms : ℕ) (l : Literal) → l.atom < atoms
+    → AreForced atoms ((l ∷ []) ∷ []) (l ∷ [])
+lone_forced atoms l less =
+    forced_around atoms ((l ∷ []) ∷ []) (l ∷ []) (λ k past. omega (arith, past))
+    (λ state size holds. alone (in_literal l state) holds)
+    (All-cons (λ clause. IsSettled [] (marked atoms (l ∷ [])) clause) (l ∷ []) []
+    (inl (l, Contains-get_or (l ∷ []) 0 l (omega arith),
+    value_marked [] (marked atoms (l ∷ [])) l (known-replicate 0 l.atom) said))
+    (All-nil (λ clause. IsSettled [] (marked atoms (l ∷ [])) clause)))
+  where
+    said : known (marked atoms (l ∷ [])) l.atom ≡ Some l.positive
+    said = let wide = length-marked atoms [] in
+        known-set_same (marked atoms []) l.atom l.positive (omega (arith, wide, less))
+
+    alone : (b : Bool) → ((b || false) && true) ≡ true → (b && true) ≡ true
+    alone true e = refl
+    alone false e = e
+
+-- what is handed out where the clauses are one literal
+pub lone_found : (atoms : ℕ) (clauses : List (List Literal)) (found : List Literal)
+    → AreClauses atoms clauses → IsLone clauses → slice_get clauses 0 ≡ Some found
+    → AreForced atoms clauses found
+lone_found atoms clauses found below alone at =
+    let l : Literal = alone.0 in
+    let here : AreClauses atoms ((l ∷ []) ∷ []) = subst (AreClauses atoms) alone.1 below in
+    let less : l.atom < atoms = here 0 (l ∷ []) (omega arith) 0 l (omega arith) in
+    let first : slice_get ((l ∷ []) ∷ []) 0 ≡ Some found =
+    ap (λ cs. slice_get cs 0) (sym alone.1) ∙ at in
+    let same : l ∷ [] ≡ found =
+    get_or_from_slice_get ((l ∷ []) ∷ []) 0 found found first in
+    subst (AreForced atoms clauses) same
+    (subst (λ cs. AreForced atoms cs (l ∷ [])) (sym alone.1) (lone_forced atoms l less))
+
+one_only : {A : Type 0} (xs : List A) (d : A) → length xs ≡ 1 → xs ≡ get_or xs 0 d ∷ []
+one_only [] d one = absurd (omega (arith, one))
+one_only (x ∷ []) d one = refl
+one_only (x ∷ y ∷ xs) d one = absurd (omega (arith, one))
+
+-- one clause with one literal
+pub lone_of : (clauses : List (List Literal)) (clause : List Literal) → length clauses ≡ 1
+    → slice_get clauses 0 ≡ Some clause → length clause ≡ 1 → IsLone clauses
+lone_of clauses clause one at short =
+    let d : Literal = record { atom = 0; positive = false } in
+    (
+      get_or clause 0 d,
+      one_only clauses clause one ∙ ap (λ c. c ∷ [])
+      (get_or_from_slice_get clauses 0 clause clause at ∙ one_only clause d short),
+    )

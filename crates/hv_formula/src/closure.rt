@@ -2,8 +2,9 @@
 //! they force.
 //!
 //! These are kept as literals by rising atoms, and not as a mark an atom, so that many small
-//! formulas over many atoms take memory by their size. What `unit_rounds` of hv_propagation don't
-//! come to the end of is found out along a trail.
+//! formulas over many atoms take memory by their size. Of one clause of one literal nothing is kept:
+//! that literal is what it forces, so the clause itself is handed out. What `unit_rounds` of
+//! hv_propagation don't come to the end of is found out along a trail.
 //!
 //! Where values have to be tried to find a state, propagation doesn't show that there is none. This
 //! is found out here too, once for a formula, unless it has fewer clauses than a sixteenth of the
@@ -19,7 +20,7 @@ ghost use Rattle.hv_propagation.specs.Clauses.{AreClauses};
 ghost use Rattle.hv_propagation.specs.Chase.{AreKept};
 ghost use Rattle.hv_propagation.specs.declared.completion.Completion.TheVariants as Ways;
 ghost use Rattle.hv_propagation.specs.Forced.{AreForced, AreNever};
-ghost use Rattle.hv_formula.specs.Working.Closure.{IsBasis, IsClosure, ListsBelow};
+ghost use Rattle.hv_formula.specs.Working.Closure.{IsBasis, IsClosure, IsLone, ListsBelow};
 ghost use Rattle.hv_propagation.specs.Marks.{known, Agrees};
 ghost use Rattle.hv_indexes.specs.Occurrences.{IsIndexOf};
 ghost use Rattle.hv_propagation.specs.Trail.{marked, marks_of};
@@ -42,6 +43,8 @@ const FEW: usize = 16;
 pub(crate) struct Closure {
     pub occurs: Occurrences,
     pub broken: bool,
+    /// Whether they are one clause of one literal, which isn't listed then.
+    pub lone: bool,
     pub forced: Vec<Literal>,
     /// How many entries the places take that looks into these clauses remember.
     pub watches: usize,
@@ -65,6 +68,40 @@ impl Closure {
             return Err(AllocError);
         }
         let occurs = Occurrences::new(alloc, clauses)?;
+        if is_lone(clauses) {
+            return Ok(Closure::of_lone(alloc, occurs));
+        }
+        Closure::of_any::<K>(alloc, atoms, clauses, occurs)
+    }
+
+    // The same of one literal, where this is the index.
+    fn of_lone(alloc: Global, occurs: Occurrences) -> Closure
+        ensures occurs { result.occurs ≡ occurs }
+        ensures broken { result.broken ≡ false }
+        ensures lone { result.lone ≡ true }
+    {
+        Closure {
+            occurs,
+            broken: false,
+            lone: true,
+            forced: Vec::new(alloc),
+            watches: 0,
+        }
+    }
+
+    // The same of any clauses, where this is the index.
+    fn of_any<K: ClauseKind>(
+        alloc: Global,
+        atoms: usize,
+        clauses: &Clauses,
+        occurs: Occurrences,
+    ) -> Result<Closure, AllocError>
+        requires few { atoms ≤ 2 ^ 31 }
+        requires clauses { AreClauses atoms clauses.now }
+        requires kind { All K.is_of clauses.now }
+        requires index { IsIndexOf clauses.now occurs }
+        ensures { IfOk result (IsClosure atoms clauses.now) }
+    {
         let watches = watches_of(clauses);
         let mut forced = Vec::new(alloc);
         let basis = Basis {
@@ -79,10 +116,25 @@ impl Closure {
         Ok(Closure {
             occurs,
             broken,
+            lone: false,
             forced,
             watches,
         })
     }
+}
+
+// Whether the clauses are one literal.
+fn is_lone(clauses: &Clauses) -> bool
+    ensures { result ≡ true → IsLone clauses.now }
+{
+    if clauses.len() != 1 {
+        return false;
+    }
+    let clause = clauses.get(0);
+    if clause.len() != 1 {
+        return false;
+    }
+    true
 }
 
 // What a closure is worked out from: clauses that speak of so many atoms, and how many entries the

@@ -41,7 +41,7 @@ pub struct Formula<K: ClauseKind> {
     atoms: u32,
     clauses: Clauses,
     closure: Closure,
-    lists: ImplicationLists,
+    lists: Option<Box<ImplicationLists>>,
     kind: PhantomData<K>,
 }
 
@@ -134,7 +134,10 @@ impl<K: ClauseKind> Formula<K> {
         requires atom { literal.atom < self.now.atoms }
         ensures { AreImplied self.now.clauses literal result.now }
     {
-        self.lists.row(literal)
+        match &self.lists {
+            Some(lists) => lists.row(literal),
+            None => unreachable!(),
+        }
     }
 
     /// How many entries the places take that looks into its clauses remember.
@@ -169,6 +172,9 @@ impl<K: ClauseKind> Formula<K> {
         ensures { MatchOption result (AreNever self.now.atoms self.now.clauses)
             (λ literals. AreForced self.now.atoms self.now.clauses literals.now) }
     {
+        if self.closure.lone {
+            return Some(self.clauses.get(0));
+        }
         if self.closure.broken {
             return None;
         }
@@ -285,21 +291,23 @@ impl<K: ClauseKind> Outside for Formula<K> {
     ghost outside_is = { laws.outside_are };
 }
 
-// The lists that are handed out; nothing where these are the negative literals, which are
-// elsewhere.
+// The lists that are handed out; none where these are the negative literals, which are elsewhere.
 fn lists_of(
     alloc: Global,
     listing: KeptLists,
     clauses: &Clauses,
     occurs: &Occurrences,
-) -> Result<ImplicationLists, AllocError>
+) -> Result<Option<Box<ImplicationLists>>, AllocError>
     requires below { All (SpeakBelow (2 ^ 31)) clauses.now }
     requires index { IsIndexOf clauses.now occurs.now }
     ensures { IfOk result (AreListsOf listing clauses.now) }
 {
     match listing {
-        KeptLists::Negative => Ok(ImplicationLists::none(alloc)),
-        KeptLists::Implied => ImplicationLists::of(alloc, clauses, occurs),
+        KeptLists::Negative => Ok(None),
+        KeptLists::Implied => {
+            let lists = ImplicationLists::of(alloc, clauses, occurs)?;
+            Ok(Some(Box::new(alloc, lists)?))
+        }
     }
 }
 
