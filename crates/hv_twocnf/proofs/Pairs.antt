@@ -1,10 +1,10 @@
 -- Clauses of at most two different literals.
 use Rattle.std.proofs.Common.{◌≡◌, ◌⊎◌, ◌∙◌, ◌&&◌, ◌==◌, Bool, true, false, not, List, get_or, inl}
-use Rattle.std.proofs.Common.{inr, sym, ap}
+use Rattle.std.proofs.Common.{inr, sym, ap, ◌≤◌, ◌∷◌, [], arith, length, refl}
 use Rattle.std.proofs.Math.Bool.{beq, not-not}
 use Rattle.std.proofs.lemmas.Bool.{and_from, and_parts}
 use Rattle.std.proofs.lemmas.Bool.Decides.{Decides-eqb}
-use Rattle.std.proofs.lemmas.List.Elements.{All-contains, Contains-get_or}
+use Rattle.std.proofs.lemmas.List.Elements.{All-cons, All-contains, All-nil, Contains-get_or}
 use Rattle.std.specs.Cmp.{booleans_Decides}
 use Rattle.std.specs.List.{All, Contains}
 use Rattle.std.specs.Prelude.{◌↔◌}
@@ -68,3 +68,20 @@ two_of_pair clause first second in_first in_second differ = (
         | inr rest ↦ elim rest [ inl e ↦ inr (sym e) | inr e ↦ inl (sym e) ]
       ],
 )
+
+-- a clause of at most two literals, counted as they stand, is one of two literals
+pub two_of_few : (clause : List Literal) → length clause ≤ 2 → IsTwoClause clause
+two_of_few [] few =
+    two_of_one [] (record { atom = 0; positive = false })
+    (All-nil (λ (l : Literal). l ≡ record { atom = 0; positive = false }))
+two_of_few (a ∷ []) few =
+    two_of_one (a ∷ []) a
+    (All-cons (λ (l : Literal). l ≡ a) a [] refl (All-nil (λ (l : Literal). l ≡ a)))
+two_of_few (a ∷ b ∷ []) few = λ l k m in_l in_k in_m.
+    let either : All (IsOneOfTwo a b) (a ∷ b ∷ []) =
+    All-cons (IsOneOfTwo a b) a (b ∷ []) (inl refl)
+    (All-cons (IsOneOfTwo a b) b [] (inr refl) (All-nil (IsOneOfTwo a b))) in
+    same_two a b l k m (All-contains (IsOneOfTwo a b) (a ∷ b ∷ []) l either in_l)
+    (All-contains (IsOneOfTwo a b) (a ∷ b ∷ []) k either in_k)
+    (All-contains (IsOneOfTwo a b) (a ∷ b ∷ []) m either in_m)
+two_of_few (a ∷ b ∷ c ∷ rest) few = absurd (omega (arith, few))

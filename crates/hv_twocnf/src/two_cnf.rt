@@ -58,6 +58,9 @@ impl ClauseKind for TwoKind {
     ghost is_fault = { IsTwoCnfFault };
 
     fn takes(clause: &[Literal]) -> bool {
+        if clause.len() <= 2 {
+            return true;
+        }
         is_two(clause)
     }
 
