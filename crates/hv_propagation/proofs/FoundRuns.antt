@@ -3,6 +3,7 @@
 use Rattle.std.proofs.Common.{◌≡◌, ◌==◌, ℕ, ◌+◌, ◌-◌, ◌<◌, ◌≤◌, ◌/◌, ◌%◌, ◌∙◌, ◌++◌, List, [], ◌∷◌}
 use Rattle.std.proofs.Common.{Bool, true, false, not, Some, None, length, get_or, drop, take, refl}
 use Rattle.std.proofs.Common.{◌⊎◌, sym, ap, arith, below_more, inl, inr, subst}
+use Rattle.std.proofs.Math.Bool.{beq}
 use Rattle.std.proofs.lemmas.Bool.{cases_lt}
 use Rattle.std.proofs.lemmas.List.{append-nil, get_or-drop, get_or-take, get_or_default}
 use Rattle.std.proofs.lemmas.List.{length-drop, length-take, length-take-le}
@@ -11,7 +12,7 @@ use Rattle.std.proofs.lemmas.List.{take_all}
 use Rattle.std.proofs.lemmas.List.Elements.{All-contains}
 use Rattle.std.proofs.lemmas.List.Folds.{Any-from_list_any}
 use Rattle.std.specs.List.{Contains}
-use Rattle.std.specs.Prelude.{replicate, slice_set}
+use Rattle.std.specs.Prelude.{slice_set}
 use Rattle.hv_indexes.specs.declared.occurrences.Standing.{Standing}
 use Rattle.hv_indexes.specs.Implied.{IsPair}
 use Rattle.hv_indexes.specs.Occurrences.{AreStanding, entry_or_none, literal_of, no_literal}
@@ -24,16 +25,16 @@ use Rattle.hv_propagation.specs.Chase.{IsFollowed}
 use Rattle.hv_propagation.specs.Clauses.{AreClauses}
 use Rattle.hv_propagation.specs.Units.{IsSettled, value_of}
 use Rattle.hv_propagation.specs.Marks.{known, over, Agrees}
-use Rattle.hv_propagation.specs.Trail.{Knowledge, marked, marks_of}
+use Rattle.hv_propagation.specs.Trail.{Knowledge, marks_of}
 use Rattle.hv_propagation.specs.Working.FoundRun.{AreKnownEntries, AreQueued, AreTrueBehind}
-use Rattle.hv_propagation.specs.Working.FoundRun.{IsForcedEntry, IsKnownEntry, IsRun, bare}
+use Rattle.hv_propagation.specs.Working.FoundRun.{IsForcedEntry, IsKnownEntry, IsRun, on_trail}
 use Rattle.hv_propagation.specs.Working.Trail.{AreJoined, trail_of}
 use Rattle.hv_propagation.proofs.Chasing.{followed_none, followed_then, marked_more, true_at}
 use Rattle.hv_propagation.proofs.Marked.{agrees_write, extends_same, extends_write}
 use Rattle.hv_propagation.proofs.Marked.{has_atom-literal, over-none, value_false, value_marked}
 use Rattle.hv_propagation.proofs.PartnerEntries.{pair_settled}
 use Rattle.hv_propagation.proofs.Rounds.{never}
-use Rattle.hv_propagation.proofs.Trailed.{joined_more, known-replicate, length-marked, length-zeros}
+use Rattle.hv_propagation.proofs.Trailed.{joined_more}
 use Rattle.hv_propagation.proofs.Trailed.{no_entry_other, no_entry_past, read_none, read_some}
 use Rattle.hv_propagation.proofs.Trailed.{room_left, trail_pushed}
 
@@ -140,138 +141,163 @@ clash_followed k l out = record {
     clash true e = never e
     clash false e = never (sym e)
 
-module _ (entry atoms : ℕ) (places queue : List ℕ) (len place : ℕ) (few : atoms ≤ 2147483647)
-    (within : entry / 2 < atoms) (joined : AreJoined (replicate atoms 0) places queue len)
-    (read : place ≡ get_or places (entry / 2) 0) where
-  wide : length (replicate {A = ℕ} atoms 0) ≡ atoms
-  wide = length-zeros atoms
+-- a literal of whose atom something is known
+known_followed : (k : Knowledge) (l : Literal) (value : Bool)
+    → known (marks_of k) l.atom ≡ Some value
+    → IsFollowed (λ state. in_literal l state ≡ true) k k (beq value l.positive)
+known_followed k l value is = by (beq value l.positive) refl
+  where
+    differ : (a b : Bool) → beq a b ≡ false → a ≡ not b
+    differ true true e = never e
+    differ true false e = refl
+    differ false true e = refl
+    differ false false e = never e
 
+    by : (b : Bool) → beq value l.positive ≡ b
+        → IsFollowed (λ state. in_literal l state ≡ true) k k b
+    by true e = followed_none (λ state. in_literal l state ≡ true) k
+    by false e = clash_followed k l (is ∙ ap (λ (b : Bool). Some b) (differ value l.positive e))
+
+same_sign : (a b : Bool) → beq a b ≡ true → a ≡ b
+same_sign true true e = refl
+same_sign false false e = refl
+same_sign true false e = never (sym e)
+same_sign false true e = never (sym e)
+
+module _ (entry : ℕ) (roots places queue : List ℕ) (len place : ℕ)
+    (within : entry / 2 < length roots) (joined : AreJoined roots places queue len)
+    (read : place ≡ get_or places (entry / 2) 0) where
   -- the entry is there
   pub forced_found : (found : ℕ) → place < len → found ≡ get_or queue place 0 → found ≡ entry
-      → IsForcedEntry entry atoms (bare atoms queue len) places queue
+      → IsForcedEntry entry roots (on_trail roots queue len) places queue
       (record { len = len; holds = true })
   forced_found found less here same = record {
     joined = joined;
     followed = followed_none (λ state. in_literal (literal_of entry) state ≡ true)
-        (bare atoms queue len);
-    known = λ is. ap (λ n. known (marks_of (bare atoms queue len)) (n / 2)) (sym (sym here ∙ same))
-        ∙ (read_some (replicate atoms 0) places queue len place joined less
+        (on_trail roots queue len);
+    known = λ is. ap (λ n. known (marks_of (on_trail roots queue len)) (n / 2))
+        (sym (sym here ∙ same))
+        ∙ (read_some roots places queue len place joined less
         ∙ ap (λ n. Some (n % 2 == 1)) (sym here ∙ same));
   }
 
   -- its opposite is there
   pub forced_out : (found : ℕ) → place < len → found ≡ get_or queue place 0
       → (found ≡ entry → ⊥) → found / 2 ≡ entry / 2
-      → IsForcedEntry entry atoms (bare atoms queue len) places queue
+      → IsForcedEntry entry roots (on_trail roots queue len) places queue
       (record { len = len; holds = false })
   forced_out found less here differ same = record {
     joined = joined;
-    followed = clash_followed (bare atoms queue len) (literal_of entry)
-        (ap (λ n. known (marks_of (bare atoms queue len)) n)
+    followed = clash_followed (on_trail roots queue len) (literal_of entry)
+        (ap (λ n. known (marks_of (on_trail roots queue len)) n)
         (sym (ap (λ n. n / 2) (sym here) ∙ same))
-        ∙ (read_some (replicate atoms 0) places queue len place joined less
+        ∙ (read_some roots places queue len place joined less
         ∙ ap (λ (b : Bool). Some b) (ap (λ n. n % 2 == 1) (sym here)
         ∙ other_sign found entry same differ)));
     known = λ is. never (sym is);
   }
 
-  -- nothing is known of its atom
+  -- the trail tells nothing of its atom
   module _ (none : (k : ℕ) → k < len → get_or queue k 0 / 2 ≡ entry / 2 → ⊥) where
-    open_atom : known (marks_of (bare atoms queue len)) (entry / 2) ≡ None
-    open_atom = read_none (replicate atoms 0) places queue len (entry / 2) joined none
-        ∙ known-replicate atoms (entry / 2)
-
-    pub force_room : len < atoms
-    force_room =
-        let left = room_left (replicate atoms 0) places queue len (entry / 2) joined
-        (omega (arith, wide)) open_atom in
-        omega (arith, wide)
-
-    pub forced_new :
-        IsForcedEntry entry atoms (bare atoms queue len) (slice_set places (entry / 2) len)
-        (slice_set queue len entry) (record { len = len + 1; holds = true })
-    forced_new =
-        let room = force_room in
-        let old = bare atoms queue len in
-        let l = literal_of entry in
-        let new : Knowledge = record { roots = old.roots; trail = old.trail ++ l ∷ [] } in
-        let pushed : new ≡ bare atoms (slice_set queue len entry) (len + 1) =
-        ap (λ (ls : List Literal). let k : Knowledge = record
-        { roots = replicate atoms 0; trail = ls } in k)
-        (sym (trail_pushed queue len entry (let rows = joined.queue_room in omega (arith, wide))))
-        in
-        let more = marked_more old l (omega (arith, wide)) in
+    -- something was known before
+    pub forced_before : (value : Bool) → Some value ≡ known roots (entry / 2)
+        → IsForcedEntry entry roots (on_trail roots queue len) places queue
+        (record { len = len; holds = beq value (entry % 2 == 1) })
+    forced_before value before =
+        let is : known (marks_of (on_trail roots queue len)) (entry / 2) ≡ Some value =
+        read_none roots places queue len (entry / 2) joined none ∙ sym before in
         record {
-          joined = joined_more (replicate atoms 0) places queue len (entry / 2) entry joined
-              (omega (arith, wide)) open_atom refl;
-          followed = subst (λ (k : Knowledge). IsFollowed (λ state. in_literal l state ≡ true) old k
-              true) pushed (push_followed old l (omega (arith, wide)) open_atom);
-          known = λ is. subst (λ (k : Knowledge). known (marks_of k) (entry / 2)
-              ≡ Some (entry % 2 == 1)) pushed more.here;
+          joined = joined;
+          followed = known_followed (on_trail roots queue len) (literal_of entry) value is;
+          known = λ holds. is
+              ∙ ap (λ (b : Bool). Some b) (same_sign value (entry % 2 == 1) holds);
         }
+
+    module _ (before : None ≡ known roots (entry / 2)) where
+      open_atom : known (marks_of (on_trail roots queue len)) (entry / 2) ≡ None
+      open_atom = read_none roots places queue len (entry / 2) joined none ∙ sym before
+
+      -- there is room for it
+      pub force_room : len < length roots
+      force_room = room_left roots places queue len (entry / 2) joined within open_atom
+
+      -- and it is put last
+      pub forced_new :
+          IsForcedEntry entry roots (on_trail roots queue len) (slice_set places (entry / 2) len)
+          (slice_set queue len entry) (record { len = len + 1; holds = true })
+      forced_new =
+          let room = force_room in
+          let rows = joined.queue_room in
+          let old = on_trail roots queue len in
+          let l = literal_of entry in
+          let new : Knowledge = record { roots = old.roots; trail = old.trail ++ l ∷ [] } in
+          let pushed : new ≡ on_trail roots (slice_set queue len entry) (len + 1) =
+          ap (λ (ls : List Literal). let k : Knowledge = record { roots = roots; trail = ls } in k)
+          (sym (trail_pushed queue len entry (omega arith))) in
+          let more = marked_more old l within in
+          record {
+            joined = joined_more roots places queue len (entry / 2) entry joined within open_atom
+                refl;
+            followed = subst (λ (k : Knowledge). IsFollowed (λ state. in_literal l state ≡ true) old
+                k true) pushed (push_followed old l within open_atom);
+            known = λ is. subst (λ (k : Knowledge). known (marks_of k) (entry / 2)
+                ≡ Some (entry % 2 == 1)) pushed more.here;
+          }
 
   -- no entry is of its atom
   pub none_past : len ≤ place → (k : ℕ) → k < len → get_or queue k 0 / 2 ≡ entry / 2 → ⊥
-  none_past past = no_entry_past (replicate atoms 0) places queue len (entry / 2) place joined
-      (omega (arith, wide))
+  none_past past = no_entry_past roots places queue len (entry / 2) place joined within
       (read ∙ get_or_default places (entry / 2) 0 place
-      (let room = joined.places_room in omega (arith, wide))) past
+      (let room = joined.places_room in omega arith)) past
 
   pub none_other : (found : ℕ) → place < len → found ≡ get_or queue place 0
       → (found / 2 ≡ entry / 2 → ⊥) → (k : ℕ) → k < len → get_or queue k 0 / 2 ≡ entry / 2 → ⊥
-  none_other found less here other = no_entry_other (replicate atoms 0) places queue len (entry / 2)
-      place found joined (omega (arith, wide))
+  none_other found less here other = no_entry_other roots places queue len (entry / 2) place found
+      joined within
       (read ∙ get_or_default places (entry / 2) 0 place
-      (let room = joined.places_room in omega (arith, wide))) less
+      (let room = joined.places_room in omega arith)) less
       (here ∙ get_or_default queue place 0 found
       (let room = joined.within in omega arith)) other
 
--- room for one entry more
-pub room_in : (atoms len : ℕ) (queue : List ℕ) → length (replicate {A = ℕ} atoms 0) ≤ length queue
-    → len < atoms → len < length queue
-room_in atoms len queue rows room = let wide = length-zeros atoms in omega arith
-
 -- a run at its beginning
-pub run_begun : (entries : List ℕ) (from index atoms : ℕ) (places queue : List ℕ) (len : ℕ)
-    → atoms ≤ 2147483647 → AreJoined (replicate atoms 0) places queue len → from ≤ index
+pub run_begun : (entries : List ℕ) (from index : ℕ) (roots places queue : List ℕ) (len : ℕ)
+    → length roots ≤ 2147483647 → AreJoined roots places queue len → from ≤ index
     → AreQueued entries (take len queue) from index
-    → IsRun entries from atoms (bare atoms queue len) places queue
+    → IsRun entries from roots (on_trail roots queue len) places queue
     (record { index = index; len = len; holds = true })
-run_begun entries from index atoms places queue len few joined after queued =
-    let wide = length-zeros atoms in
-    record {
-      after = after;
-      joined = joined;
-      followed = followed_none (AreTrueBehind entries from) (bare atoms queue len);
-      known = λ is k past less. queued_known (replicate atoms 0) places queue len
-          (entry_or_none entries k) joined (omega arith) (queued k past less);
-    }
+run_begun entries from index roots places queue len few joined after queued = record {
+  after = after;
+  joined = joined;
+  followed = followed_none (AreTrueBehind entries from) (on_trail roots queue len);
+  known = λ is k past less. queued_known roots places queue len (entry_or_none entries k) joined few
+      (queued k past less);
+}
 
 -- and one entry further
-pub run_step : (entries : List ℕ) (from index entry atoms : ℕ) (old : Knowledge)
-    (places queue more_places more_queue : List ℕ) (len : ℕ) (forced : Forced)
-    → atoms ≤ 2147483647 → index < length entries → entry ≡ get_or entries index 0
-    → entry / 2 < atoms
-    → IsRun entries from atoms old places queue (record { index = index; len = len; holds = true })
-    → IsForcedEntry entry atoms (bare atoms queue len) more_places more_queue forced
-    → IsRun entries from atoms old more_places more_queue
+pub run_step : (entries : List ℕ) (from index entry : ℕ) (roots : List ℕ)
+    (old : Knowledge) (places queue more_places more_queue : List ℕ) (len : ℕ) (forced : Forced)
+    → length roots ≤ 2147483647 → index < length entries → entry ≡ get_or entries index 0
+    → entry / 2 < length roots
+    → IsRun entries from roots old places queue (record { index = index; len = len; holds = true })
+    → IsForcedEntry entry roots (on_trail roots queue len) more_places more_queue forced
+    → IsRun entries from roots old more_places more_queue
     (record { index = index + 1; len = forced.len; holds = forced.holds })
-run_step entries from index entry atoms old places queue more_places more_queue len forced few less
+run_step entries from index entry roots old places queue more_places more_queue len forced few less
     read within run one =
     let same : entry ≡ entry_or_none entries index = read
     ∙ get_or_default entries index 0 no_literal less in
     let after = run.after in
     let some : entry_or_none entries index ≡ no_literal → ⊥ = λ none.
     let half = ap (λ n. n / 2) (same ∙ none) in omega arith in
-    let mid = marks_of (bare atoms queue len) in
-    let new = marks_of (bare atoms more_queue forced.len) in
+    let mid = marks_of (on_trail roots queue len) in
+    let new = marks_of (on_trail roots more_queue forced.len) in
     let Known : ℕ → Type 0 = λ k. from ≤ k → IsKnownEntry new (entry_or_none entries k) in
     record {
       after = omega arith;
       joined = one.joined;
       followed = followed_then (AreTrueBehind entries from)
-          (λ state. in_literal (literal_of entry) state ≡ true) old (bare atoms queue len)
-          (bare atoms more_queue forced.len) forced.holds
+          (λ state. in_literal (literal_of entry) state ≡ true) old (on_trail roots queue len)
+          (on_trail roots more_queue forced.len) forced.holds
           (λ state size all. subst (λ n. in_literal (literal_of n) state ≡ true) (sym same)
           (all index after less some)) run.followed one.followed;
       known = λ is k past before. below_more Known index
@@ -357,12 +383,3 @@ run_followed e clauses standing old new count from holds nothing are below few o
         (pair_rest (over e state) standing.literal other clause pair
         (value_false e (marks_of old) standing.literal state out agrees (omega arith))
         (true_at e clauses place inside state is)))
-
--- rows of marks where nothing was known before
-pub bare_rows : (atoms : ℕ) (roots trail : List Literal) (k : Knowledge)
-    → (let m : Knowledge = record { roots = marked atoms roots; trail = trail } in m) ≡ k
-    → k.roots ≡ replicate (length k.roots) 0 → marked atoms roots ≡ replicate atoms 0
-bare_rows atoms roots trail k view none =
-    let at : marked atoms roots ≡ k.roots = ap (λ (m : Knowledge). m.roots) view in
-    at ∙ (none ∙ ap (λ n. replicate n 0) (sym (ap (λ (m : List ℕ). length m) at)
-    ∙ length-marked atoms roots))

@@ -1,11 +1,13 @@
 //! Buffers for a trail.
 
-ghost use Rattle.std.specs.Prelude.{◌≡◌, ◌<◌, ◌≤◌, IfOk, length, replicate, slice_index, slice_set};
+ghost use Rattle.std.specs.Prelude.{◌≡◌, ◌<◌, ◌≤◌, IfOk, length, slice_index, slice_set};
 ghost use Rattle.hv_propagation.specs.Working.Buffers.{places_in, queue_in};
-ghost use Rattle.hv_propagation.specs.Working.FoundRun.{IsRun, bare};
+ghost use Rattle.hv_propagation.specs.Working.FoundRun.{IsRun, on_trail};
+ghost use Rattle.hv_propagation.specs.Trail.{marked};
 ghost use Rattle.hv_propagation.specs.Working.Trail.{AreJoined};
 
 use crate::found_run::{self, RunEnd};
+use crate::roots::Roots;
 use std::alloc::{AllocError, Global};
 
 // A row of places and a row of entries: its own, or else those that others lend.
@@ -52,49 +54,32 @@ impl<'a> Buffers<'a> {
         })
     }
 
-    // The row of places.
-    #[inline(always)]
-    pub(crate) fn places(&self) -> &[u32]
-        ensures { result.now ≡ places_in self.now }
-    {
-        match &self.own {
-            None => self.places,
-            Some(rows) => &rows.places,
-        }
-    }
-
-    // The row of entries.
-    #[inline(always)]
-    pub(crate) fn queue(&self) -> &[u32]
-        ensures { result.now ≡ queue_in self.now }
-    {
-        match &self.own {
-            None => self.queue,
-            Some(rows) => &rows.queue,
-        }
-    }
-
-    // Puts each entry of a list last, unless it is there, as `force_each` does.
+    // Puts each entry of a list last, unless what it denotes is known to be true (`found_run`).
     #[inline(always)]
     pub(crate) fn force_each(
         &mut self,
         entries: &[u32],
         from: usize,
         atoms: usize,
+        roots: &Roots<'_>,
         len: usize,
     ) -> RunEnd
         requires few { atoms ≤ 2147483647 }
-        requires joined { AreJoined (replicate atoms 0) (places_in self.old) (queue_in self.old)
-            len }
-        ensures { IsRun entries.now from atoms (bare atoms (queue_in self.old) len)
+        requires joined { AreJoined (marked atoms roots.now) (places_in self.old)
+            (queue_in self.old) len }
+        ensures { IsRun entries.now from (marked atoms roots.now)
+            (on_trail (marked atoms roots.now) (queue_in self.old) len)
             (places_in self.new) (queue_in self.new) result }
     {
         match &mut self.own {
-            None => found_run::force_each(entries, from, atoms, self.places, self.queue, len),
+            None => {
+                found_run::force_each(entries, from, atoms, roots, self.places, self.queue, len)
+            }
             Some(rows) => found_run::force_each(
                 entries,
                 from,
                 atoms,
+                roots,
                 &mut rows.places,
                 &mut rows.queue,
                 len,

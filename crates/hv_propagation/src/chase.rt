@@ -157,7 +157,7 @@ pub(crate) fn visit_all(
     ensures kept { result ≡ true → (place : ℕ) → Contains standing.now.places.now place
         → IsKept effect.now (clause_at clauses.now place) marks.new (length marks.old.trail) }
 {
-    if effect.says_nothing() && marks.is_bare() {
+    if effect.says_nothing() {
         return visit_in_runs(clauses, standing, effect, marks);
     }
     let mut index = 0;
@@ -229,7 +229,7 @@ fn visit_run(
     if index >= count {
         return RunEnd {
             index,
-            len: 0,
+            len: marks.len(),
             holds: true,
         };
     }
@@ -263,22 +263,6 @@ fn next_place(
 // writes nothing.
 #[inline(never)]
 fn place_of_other(
-    standing: &Standing<'_>,
-    from: usize,
-    effect: &ActionEffect<'_>,
-    marks: &Assignment<'_>,
-) -> usize
-    ensures after { from ≤ result }
-    ensures settled { AreSettledBetween effect.now (marks_of marks.now) standing.now from result }
-{
-    if effect.says_nothing() {
-        return marks.past_found(standing.entries, from);
-    }
-    place_of_other_behind(standing, from, effect, marks)
-}
-
-// The same, seen through the effect.
-fn place_of_other_behind(
     standing: &Standing<'_>,
     from: usize,
     effect: &ActionEffect<'_>,

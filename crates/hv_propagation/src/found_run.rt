@@ -1,16 +1,18 @@
 //! A list of entries against those of a trail, in one loop.
 //!
 //! Where a literal became known, all that stands beside it is made true, or is seen to be, and that
-//! is most of the work of a chase. So these are loops over bare rows, which know of no effect and
-//! ask for nothing twice. Where clauses are in order, the entries follow each other on the trail as
-//! they do in the list, and are compared in pairs; from the first one on that doesn't, each is
-//! looked for at the place of its atom. That an entry is there is all that counts: the places may
-//! be any.
+//! is most of the work of a chase. So these are loops over bare rows, which know of no effect; what
+//! was known before is asked for only where the trail says nothing. Where clauses are in order, the
+//! entries follow each other on the trail as they do in the list, and are compared in pairs; from
+//! the first one on that doesn't, each is looked for at the place of its atom. That an entry is on
+//! the trail is all that counts here: the places may be any.
 
-ghost use Rattle.std.specs.Prelude.{◌≡◌, ◌<◌, ◌≤◌, ◌/◌, ℕ, length, replicate, slice_index_or, true};
-ghost use Rattle.std.specs.List.{Contains};
-ghost use Rattle.hv_propagation.specs.Working.FoundRun.{AreQueued, IsForcedEntry, IsRun, bare};
+ghost use Rattle.std.specs.Prelude.{◌≡◌, ◌<◌, ◌≤◌, ◌/◌, ℕ, length, slice_index_or};
+ghost use Rattle.hv_propagation.specs.Trail.{marked};
+ghost use Rattle.hv_propagation.specs.Working.FoundRun.{AreQueued, IsForcedEntry, IsRun, on_trail};
 ghost use Rattle.hv_propagation.specs.Working.Trail.{AreJoined};
+
+use crate::roots::Roots;
 
 // The place in a list that was come to, how long the trail is then, and whether no entry was met
 // whose opposite is true.
@@ -28,19 +30,21 @@ pub(crate) struct Forced {
     pub holds: bool,
 }
 
-// Puts each entry of the list from this place on last, unless it is in the queue, up to one that
-// denotes no literal of so many atoms. Nothing is known but what the queue says.
+// Puts each entry of the list from this place on last in the queue, unless what it denotes is known
+// to be true, up to one that denotes no literal of so many atoms.
 pub(crate) fn force_each(
     entries: &[u32],
     from: usize,
     atoms: usize,
+    roots: &Roots<'_>,
     places: &mut [u32],
     queue: &mut [u32],
     len: usize,
 ) -> RunEnd
     requires few { atoms ≤ 2147483647 }
-    requires joined { AreJoined (replicate atoms 0) places.old queue.old len }
-    ensures { IsRun entries.now from atoms (bare atoms queue.old len) places.new queue.new result }
+    requires joined { AreJoined (marked atoms roots.now) places.old queue.old len }
+    ensures { IsRun entries.now from (marked atoms roots.now)
+        (on_trail (marked atoms roots.now) queue.old len) places.new queue.new result }
 {
     let mut index = past_run(entries, from, places, &queue[..len]);
     let mut end = len;
@@ -49,7 +53,7 @@ pub(crate) fn force_each(
         if (entry / 2) as usize >= atoms {
             break;
         }
-        let forced = force(entry, atoms, places, queue, end);
+        let forced = force(entry, atoms, roots, places, queue, end);
         end = forced.len;
         index += 1;
         if !forced.holds {
@@ -67,48 +71,47 @@ pub(crate) fn force_each(
     }
 }
 
-// Puts an entry last, unless it is in the queue, or its opposite is.
+// Puts an entry last, unless something is known of its atom.
 #[inline(always)]
-fn force(entry: u32, atoms: usize, places: &mut [u32], queue: &mut [u32], len: usize) -> Forced
+fn force(
+    entry: u32,
+    atoms: usize,
+    roots: &Roots<'_>,
+    places: &mut [u32],
+    queue: &mut [u32],
+    len: usize,
+) -> Forced
     requires few { atoms ≤ 2147483647 }
     requires atom { entry / 2 < atoms }
-    requires joined { AreJoined (replicate atoms 0) places.old queue.old len }
-    ensures { IsForcedEntry entry atoms (bare atoms queue.old len) places.new queue.new result }
+    requires joined { AreJoined (marked atoms roots.now) places.old queue.old len }
+    ensures { IsForcedEntry entry (marked atoms roots.now)
+        (on_trail (marked atoms roots.now) queue.old len) places.new queue.new result }
 {
-    let _ = atoms;
-    let atom = (entry / 2) as usize;
-    let place = places[atom] as usize;
+    let atom = entry / 2;
+    let place = places[atom as usize] as usize;
     if place < len {
         let found = queue[place];
         if found == entry {
             return Forced { len, holds: true };
         }
-        if found / 2 == entry / 2 {
+        if found / 2 == atom {
             return Forced { len, holds: false };
         }
     }
-    places[atom] = len as u32;
-    queue[len] = entry;
-    Forced {
-        len: len + 1,
-        holds: true,
-    }
-}
-
-// The first place of the list from this one on whose entry isn't found in the queue.
-#[inline(always)]
-pub(crate) fn first_missing(entries: &[u32], from: usize, places: &[u32], queue: &[u32]) -> usize
-    ensures after { from ≤ result }
-    ensures queued { AreQueued entries.now queue.now from result }
-{
-    let mut index = past_run(entries, from, places, queue);
-    while index < entries.len() {
-        if !is_queued(entries[index], places, queue) {
-            return index;
+    match roots.read(atoms, atom) {
+        Some(value) => Forced {
+            len,
+            holds: value == (entry % 2 == 1),
+        },
+        None => {
+            places[atom as usize] = len as u32;
+            queue[len] = entry;
+            Forced {
+                len: len + 1,
+                holds: true,
+            }
         }
-        index += 1;
     }
-    index
 }
 
 // The first place of the list from this one on whose entry doesn't follow that before it in the
@@ -142,18 +145,6 @@ fn common_front(one: &[u32], other: &[u32]) -> usize
         count += 1;
     }
     count
-}
-
-// Whether the entry is found in the queue.
-#[inline(always)]
-fn is_queued(entry: u32, places: &[u32], queue: &[u32]) -> bool
-    ensures { result ≡ true → Contains queue.now entry }
-{
-    let place = place_of(entry, places);
-    if place >= queue.len() {
-        return false;
-    }
-    queue[place] == entry
 }
 
 // The place of the entry's atom, or else one past all others.

@@ -1,6 +1,6 @@
 //! What is known before a search begins.
 
-ghost use Rattle.std.specs.Prelude.{◌≡◌, ◌<◌, [], true};
+ghost use Rattle.std.specs.Prelude.{◌≡◌, ◌<◌};
 ghost use Rattle.std.specs.List.Sorted.{IsStrictlyIncreasing};
 ghost use Rattle.hv_sets.specs.Cubes.{atoms_of};
 ghost use Rattle.hv_sets.specs.Working.Cubes.{IsFirstUpto};
@@ -52,14 +52,6 @@ impl<'a> Roots<'a> {
         ensures { result ≡ untouched effect.entry literals.now }
     {
         Roots { literals, effect }
-    }
-
-    // Whether there are none.
-    #[inline(always)]
-    pub(crate) fn are_none(&self) -> bool
-        ensures { result ≡ true → self.now ≡ [] }
-    {
-        self.literals.is_empty()
     }
 
     /// What they say of an atom of a task with so many.

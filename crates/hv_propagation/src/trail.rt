@@ -5,7 +5,7 @@
 //! no clearing, whatever is in them, and to forget the latest literals is to shorten the trail.
 
 ghost use Rattle.std.specs.Prelude.{◌≡◌, ◌<◌, ◌≤◌, ◌++◌, ◌^◌, [], ◌∷◌, None, Some, length, take};
-ghost use Rattle.std.specs.Prelude.{IfOk, replicate, slice_get, true};
+ghost use Rattle.std.specs.Prelude.{IfOk, slice_get, true};
 ghost use Rattle.std.specs.List.Sorted.{IsStrictlyIncreasing};
 ghost use Rattle.hv_sets.specs.Cubes.{atoms_of};
 ghost use Rattle.hv_propagation.specs.Marks.{filled, known};
@@ -14,7 +14,7 @@ ghost use Rattle.hv_propagation.specs.Working.FoundRun.{AreKnownEntries, AreTrue
 ghost use Rattle.hv_propagation.specs.Chase.{IsFollowed};
 
 use crate::buffers::Buffers;
-use crate::found_run::{self, RunEnd};
+use crate::found_run::RunEnd;
 use crate::roots::Roots;
 use crate::watched::Watch;
 use hv_sets::Literal;
@@ -173,18 +173,8 @@ impl<'a> Assignment<'a> {
         Some(entry % 2 == 1)
     }
 
-    // Whether nothing was known before, of not too many atoms.
-    #[inline(always)]
-    pub(crate) fn is_bare(&self) -> bool
-        ensures few { result ≡ true → length self.now.roots ≤ 2147483647 }
-        ensures none { result ≡ true → self.now.roots ≡ replicate (length self.now.roots) 0 }
-    {
-        self.atoms <= MOST_ATOMS && self.roots.are_none()
-    }
-
-    // Puts on the trail what the entries of the list from this place on denote, up to one that
-    // denotes no literal, or one whose opposite is true. Where something was known before, this
-    // goes no further than what is found on the trail.
+    // Puts on the trail what the entries of the list from this place on denote, unless it is known
+    // to be true, up to one that denotes no literal, or one whose opposite is true.
     pub(crate) fn force_run(&mut self, entries: &[u32], from: usize) -> RunEnd
         ensures followed { IsFollowed (AreTrueBehind entries.now from) self.old self.new
             result.holds }
@@ -192,31 +182,19 @@ impl<'a> Assignment<'a> {
         ensures known { result.holds ≡ true
             → AreKnownEntries (marks_of self.new) entries.now from result.index }
     {
-        if !self.is_bare() {
-            let index = self.past_found(entries, from);
+        // The entry that denotes no literal is that of the last atom that there can be.
+        if self.atoms > MOST_ATOMS {
             return RunEnd {
-                index,
+                index: from,
                 len: self.len,
                 holds: true,
             };
         }
-        let end = self.buffers.force_each(entries, from, self.atoms, self.len);
+        let end = self
+            .buffers
+            .force_each(entries, from, self.atoms, &self.roots, self.len);
         self.len = end.len;
         end
-    }
-
-    // The first place of the list from this one on whose entry isn't one of a literal that is found
-    // on the trail.
-    pub(crate) fn past_found(&self, entries: &[u32], from: usize) -> usize
-        ensures after { from ≤ result }
-        ensures found { AreKnownEntries (marks_of self.now) entries.now from result }
-    {
-        // The entry that denotes no literal is that of the last atom that there can be.
-        if self.atoms > MOST_ATOMS {
-            return from;
-        }
-        let queue = &self.buffers.queue()[..self.len];
-        found_run::first_missing(entries, from, self.buffers.places(), queue)
     }
 
     // Whether the literal stands on the trail. It may be known to be true where it doesn't.

@@ -1,6 +1,5 @@
 -- Entries that stand among those of a trail, or are put there.
 use Rattle.std.specs.Prelude.{◌≡◌, ◌<◌, ◌≤◌, ◌/◌, ◌%◌, ◌==◌, ℕ, Bool, true, List, Some, length}
-use Rattle.std.specs.Prelude.{replicate}
 use Rattle.std.specs.List.{Contains}
 use Rattle.hv_indexes.specs.Occurrences.{entry_or_none, literal_of, no_literal}
 use Rattle.hv_sets.specs.Truth.{in_literal}
@@ -32,24 +31,25 @@ AreTrueBehind entries from state =
     (k : ℕ) → from ≤ k → k < length entries → (entry_or_none entries k ≡ no_literal → ⊥)
     → in_literal (literal_of (entry_or_none entries k)) state ≡ true
 
--- what is known of so many atoms by a trail alone
-abbrev pub bare : ℕ → List ℕ → ℕ → Knowledge
-bare atoms queue len = record { roots = replicate atoms 0; trail = trail_of queue len }
+-- what is known by a trail on top of what was known before
+abbrev pub on_trail : List ℕ → List ℕ → ℕ → Knowledge
+on_trail roots queue len = record { roots = roots; trail = trail_of queue len }
 
 -- what an entry denotes was made true, or was; or its opposite is true
-pub record IsForcedEntry (entry atoms : ℕ) (old : Knowledge) (places queue : List ℕ)
+pub record IsForcedEntry (entry : ℕ) (roots : List ℕ) (old : Knowledge) (places queue : List ℕ)
     (forced : Forced) : Type 0 where
-  pub joined : AreJoined (replicate atoms 0) places queue forced.len
+  pub joined : AreJoined roots places queue forced.len
   pub followed : IsFollowed (λ state. in_literal (literal_of entry) state ≡ true) old
-      (bare atoms queue forced.len) forced.holds
+      (on_trail roots queue forced.len) forced.holds
   pub known : forced.holds ≡ true
-      → known (marks_of (bare atoms queue forced.len)) (entry / 2) ≡ Some (entry % 2 == 1)
+      → known (marks_of (on_trail roots queue forced.len)) (entry / 2) ≡ Some (entry % 2 == 1)
 
 -- so was what the entries from a place on denote, up to where the run ended
-pub record IsRun (entries : List ℕ) (from atoms : ℕ) (old : Knowledge) (places queue : List ℕ)
-    (end : RunEnd) : Type 0 where
+pub record IsRun (entries : List ℕ) (from : ℕ) (roots : List ℕ) (old : Knowledge)
+    (places queue : List ℕ) (end : RunEnd) : Type 0 where
   pub after : from ≤ end.index
-  pub joined : AreJoined (replicate atoms 0) places queue end.len
-  pub followed : IsFollowed (AreTrueBehind entries from) old (bare atoms queue end.len) end.holds
+  pub joined : AreJoined roots places queue end.len
+  pub followed : IsFollowed (AreTrueBehind entries from) old (on_trail roots queue end.len)
+      end.holds
   pub known : end.holds ≡ true
-      → AreKnownEntries (marks_of (bare atoms queue end.len)) entries from end.index
+      → AreKnownEntries (marks_of (on_trail roots queue end.len)) entries from end.index

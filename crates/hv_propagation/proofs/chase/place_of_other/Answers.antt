@@ -1,9 +1,17 @@
+use Rattle.std.proofs.Common.{ℕ, ◌≤◌, arith, below_more}
 use Rattle.hv_propagation.specs.Trail.{marks_of}
-use Rattle.hv_propagation.proofs.FoundRuns.{entry_settled}
+use Rattle.hv_propagation.specs.Working.Chase.{IsSettledAt}
 use Rattle.hv_propagation.proofs.chase.place_of_other.Goals as goal
 
-pub returns-then-says_nothing-clause-settled : goal.returns-then-says_nothing-clause-settled
-returns-then-says_nothing-clause-settled c = λ k past less clauses are within.
-    entry_settled c.args.effect.now (marks_of c.args.marks.now) clauses c.args.standing.now k
-    (c.says_nothing.ensures c.if-says_nothing.true) are within
-    (c.past_found.ensures.found k past less)
+pub loop-index-preserved : goal.loop-index-preserved
+loop-index-preserved c =
+    let Holds : ℕ → Type 0 = λ k. IsSettledAt c.args.effect.now (marks_of c.args.marks.now)
+    c.args.standing.now k in
+    let here = c.is_true_beside.ensures c.if-not-is_true_beside.false in
+    let more = c.loop-index.invariant.after in
+    record {
+      after = omega arith;
+      settled = λ k past less. below_more (λ j. c.args.from ≤ j → Holds j) c.loop-index.index
+          (λ j before behind. c.loop-index.invariant.settled j behind before)
+          (λ behind. here) k less past;
+    }

@@ -1,10 +1,12 @@
 use Rattle.std.proofs.Common.{◌-◌, length, true}
-use Rattle.hv_propagation.specs.Working.FoundRun.{IsRun, bare}
+use Rattle.hv_propagation.specs.Trail.{marked}
+use Rattle.hv_propagation.specs.Working.FoundRun.{IsRun, on_trail}
 use Rattle.hv_propagation.proofs.found_run.force_each.Given as goal
 
 abbrev pub invariant-loop-index : goal.invariant-loop-index
 invariant-loop-index l =
-    IsRun l.entries l.from l.atoms (bare l.atoms l.fn.queue l.len) l.places l.queue
+    IsRun l.entries l.from (marked l.atoms l.roots)
+    (on_trail (marked l.atoms l.roots) l.fn.queue l.len) l.places l.queue
     (record { index = l.index; len = l.end; holds = true })
 
 abbrev pub decreases-loop-index : goal.decreases-loop-index

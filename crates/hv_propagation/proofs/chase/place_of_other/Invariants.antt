@@ -1,7 +1,7 @@
 use Rattle.std.proofs.Common.{◌≤◌, ◌-◌, length}
 use Rattle.hv_propagation.specs.Trail.{marks_of}
 use Rattle.hv_propagation.specs.Working.Chase.{AreSettledBetween}
-use Rattle.hv_propagation.proofs.chase.place_of_other_behind.Given as goal
+use Rattle.hv_propagation.proofs.chase.place_of_other.Given as goal
 
 abbrev pub invariant-loop-index : goal.invariant-loop-index
 invariant-loop-index l = record {
