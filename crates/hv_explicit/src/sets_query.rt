@@ -410,6 +410,9 @@ impl SetsQuery<'_> {
             → HasJust self.now.task (is_after action.now held.entry) state
             → IsHit self.now self.now.query.negative true state }
     {
+        if guess.place == u32::MAX {
+            return false;
+        }
         let number = guess.set as usize;
         if !self.names_set(number, true) {
             return false;
