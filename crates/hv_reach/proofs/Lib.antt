@@ -4,6 +4,7 @@ pub mod Waiting
 pub mod Steps
 pub mod Cells
 pub mod Turns
+pub mod Served
 pub mod Start
 pub mod Denials
 pub mod Covered

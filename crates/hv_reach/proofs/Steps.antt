@@ -53,7 +53,7 @@ pub record IsQuiet (n : ℕ) (flags : List Bool) (a : Action) : Type 0 where
   pub pre : All (λ x. has_atom flags x ≡ false) a.pre
   pub past : length a.pre ≡ 0 → has_atom flags n ≡ false
 
-quiet_or : (n : ℕ) (flags : List Bool) (a : Action)
+pub quiet_or : (n : ℕ) (flags : List Bool) (a : Action)
     → ((x : ℕ) × IsTrigger n a x × (has_atom flags x ≡ true)) ⊎ IsQuiet n flags a
 quiet_or n flags a =
     elim (any_raised flags a.pre) [

@@ -3,6 +3,7 @@ pub mod Index
 pub mod Passed
 pub mod Waiting
 pub mod Table
+pub mod Course
 pub mod Written
 pub mod NoteRows
 pub mod Pruners

@@ -1,25 +1,24 @@
 //! The search for reached pairs: actions are visited until no row grows.
 //!
-//! A visit of an action does its whole work by rows: it meets the rows of its precondition, takes
-//! out what it adds and deletes, and puts what is left into the rows of what it adds. There is one
-//! flag per atom and no queue of pairs: an action is visited again only where a row of an atom of
-//! its precondition grew. The order of visits is left free by the proof, and was chosen by
-//! measuring: new atoms first, then the atoms that few actions ask for; the search ends when a
-//! sweep over all atoms moved nothing.
+//! There is one flag per atom and no queue of pairs: an action is visited again only where a row of
+//! an atom of its precondition grew, and is then told what is new in it (`pair_course`). The order of
+//! visits is left free by the proof, and was chosen by measuring: new atoms first, then the atoms
+//! that few actions ask for; the search ends when a sweep over all atoms moved nothing.
 
-ghost use Rattle.std.specs.Prelude.{◌≡◌, ◌≤◌, ◌<◌, ◌+◌, ℕ, true, false, length, MatchOption};
-ghost use Rattle.hv_task.specs.declared.action.Action.{Action};
+ghost use Rattle.std.specs.Prelude.{◌≡◌, ◌≤◌, ◌<◌, ◌+◌, ℕ, true, false, length, IfSome};
 ghost use Rattle.hv_task.specs.State.{AreBelow, has_atom};
-ghost use Rattle.hv_task.specs.Strips.{IsOver, atoms};
+ghost use Rattle.hv_task.specs.Strips.{atoms};
 ghost use Rattle.hv_reach.specs.Reached.{has_pair};
 ghost use Rattle.hv_reach.specs.Index.{IsTaskIndex};
+ghost use Rattle.hv_reach.specs.Working.Course.{AreNewsBelow, IsCourse, IsNews, IsSized, IsTold};
+ghost use Rattle.hv_reach.specs.Working.Course.{StandAllBut};
 ghost use Rattle.hv_reach.specs.Working.Table.{HaveTheirPairs, HaveTheirPairsBut, IsPairStep};
-ghost use Rattle.hv_reach.specs.Working.Table.{HasItsPairs, IsPairTable, IsTurn, KeepAllPairs};
-ghost use Rattle.hv_reach.specs.Working.Table.{KeepsPairs, PairsGrowWithin};
+ghost use Rattle.hv_reach.specs.Working.Table.{IsPairTable, IsTurn, KeepAllPairs};
+ghost use Rattle.hv_reach.specs.Working.Table.{PairsGrowWithin};
 
-use crate::mask::{has_pairs, spared};
-use crate::pair_table::{join_all, mark_all};
-use hv_task::{Action, State, Task};
+use crate::pair_course::{Course, tell};
+use crate::pair_visit::visit;
+use hv_task::{Atoms, Hint, State, Task};
 
 /// Goes on until no flag is raised. Short rows come before long ones, which wait until the short
 /// ones are settled: where pairs come one after the other, a long row is then not gone through for
@@ -29,14 +28,13 @@ pub(crate) fn close(
     index: &Vec<Vec<u32>>,
     rows: &mut Vec<State>,
     flags: &mut State,
-    mask: &mut State,
-    seen: &mut State,
+    course: &mut Course,
 )
     requires index { IsTaskIndex task.now index.now.items }
     requires table { IsPairTable (atoms task.now) rows.old.items }
     requires flags { length flags.old ≡ atoms task.now + 1 }
-    requires mask { length mask.old ≡ atoms task.now }
-    requires seen { length seen.old ≡ atoms task.now }
+    requires course { IsCourse (atoms task.now) task.now.actions rows.old.items flags.old
+        course.old }
     requires ready { HaveTheirPairs (atoms task.now) task.now.actions rows.old.items flags.old }
     ensures table { IsPairTable (atoms task.now) rows.new.items }
     ensures grows { (p q : ℕ) → has_pair rows.old.items p q ≡ true
@@ -46,8 +44,8 @@ pub(crate) fn close(
 {
     let mut moved = true;
     while moved {
-        settle(task, index, rows, flags, mask, seen);
-        moved = sweep(task, index, rows, flags, mask);
+        settle(task, index, rows, flags, course);
+        moved = sweep(task, index, rows, flags, course);
     }
 }
 
@@ -57,27 +55,26 @@ fn settle(
     index: &Vec<Vec<u32>>,
     rows: &mut Vec<State>,
     flags: &mut State,
-    mask: &mut State,
-    seen: &mut State,
+    course: &mut Course,
 ) -> bool
     requires index { IsTaskIndex task.now index.now.items }
     requires table { IsPairTable (atoms task.now) rows.old.items }
     requires flags { length flags.old ≡ atoms task.now + 1 }
-    requires mask { length mask.old ≡ atoms task.now }
-    requires seen { length seen.old ≡ atoms task.now }
+    requires course { IsCourse (atoms task.now) task.now.actions rows.old.items flags.old
+        course.old }
     requires ready { HaveTheirPairs (atoms task.now) task.now.actions rows.old.items flags.old }
     ensures turn { IsTurn (atoms task.now) rows.old.items flags.old
         rows.new.items flags.new result }
     ensures ready { HaveTheirPairs (atoms task.now) task.now.actions rows.new.items flags.new }
-    ensures mask { length mask.new ≡ atoms task.now }
-    ensures seen { length seen.new ≡ atoms task.now }
+    ensures course { IsCourse (atoms task.now) task.now.actions rows.new.items flags.new
+        course.new }
     ensures least { PairsGrowWithin (KeepAllPairs task.now.actions) rows.old.items rows.new.items }
 {
     let mut moved = false;
     for round in 0..task.atoms() {
         let _ = round;
-        moved |= chase(task, index, rows, flags, mask, seen);
-        let more = sweep_short(task, index, rows, flags, mask);
+        moved |= chase(task, index, rows, flags, course);
+        let more = sweep_short(task, index, rows, flags, course);
         moved |= more;
         if !more {
             return moved;
@@ -92,22 +89,29 @@ fn sweep_short(
     index: &Vec<Vec<u32>>,
     rows: &mut Vec<State>,
     flags: &mut State,
-    mask: &mut State,
+    course: &mut Course,
 ) -> bool
     requires index { IsTaskIndex task.now index.now.items }
     requires table { IsPairTable (atoms task.now) rows.old.items }
     requires flags { length flags.old ≡ atoms task.now + 1 }
-    requires mask { length mask.old ≡ atoms task.now }
+    requires course { IsCourse (atoms task.now) task.now.actions rows.old.items flags.old
+        course.old }
     requires ready { HaveTheirPairs (atoms task.now) task.now.actions rows.old.items flags.old }
     ensures turn { IsTurn (atoms task.now) rows.old.items flags.old
         rows.new.items flags.new result }
     ensures ready { HaveTheirPairs (atoms task.now) task.now.actions rows.new.items flags.new }
-    ensures mask { length mask.new ≡ atoms task.now }
+    ensures course { IsCourse (atoms task.now) task.now.actions rows.new.items flags.new
+        course.new }
     ensures least { PairsGrowWithin (KeepAllPairs task.now.actions) rows.old.items rows.new.items }
 {
     let mut moved = false;
-    for atom in 0..task.atoms() {
-        moved |= turn_short(task, index, rows, flags, mask, atom);
+    let mut from = 0;
+    while let Some(flag) = next_raised(flags, from) {
+        if flag == task.atoms() {
+            return moved;
+        }
+        moved |= turn_short(task, index, rows, flags, course, flag);
+        from = flag + 1;
     }
     moved
 }
@@ -119,26 +123,28 @@ fn turn_short(
     index: &Vec<Vec<u32>>,
     rows: &mut Vec<State>,
     flags: &mut State,
-    mask: &mut State,
+    course: &mut Course,
     flag: u32,
 ) -> bool
     requires flag { flag ≤ atoms task.now }
     requires index { IsTaskIndex task.now index.now.items }
     requires table { IsPairTable (atoms task.now) rows.old.items }
     requires flags { length flags.old ≡ atoms task.now + 1 }
-    requires mask { length mask.old ≡ atoms task.now }
+    requires course { IsCourse (atoms task.now) task.now.actions rows.old.items flags.old
+        course.old }
     requires ready { HaveTheirPairs (atoms task.now) task.now.actions rows.old.items flags.old }
     ensures turn { IsTurn (atoms task.now) rows.old.items flags.old
         rows.new.items flags.new result }
     ensures ready { HaveTheirPairs (atoms task.now) task.now.actions rows.new.items flags.new }
-    ensures mask { length mask.new ≡ atoms task.now }
+    ensures course { IsCourse (atoms task.now) task.now.actions rows.new.items flags.new
+        course.new }
     ensures least { PairsGrowWithin (KeepAllPairs task.now.actions) rows.old.items rows.new.items }
 {
     let few = 16 * task.actions() / (task.atoms() + 1);
     if index[flag as usize].len() > few as usize {
         return false;
     }
-    turn(task, index, rows, flags, mask, flag)
+    turn(task, index, rows, flags, course, flag)
 }
 
 // One turn for each atom that is new, and for those that come up meanwhile: atoms that are in with
@@ -148,50 +154,61 @@ fn chase(
     index: &Vec<Vec<u32>>,
     rows: &mut Vec<State>,
     flags: &mut State,
-    mask: &mut State,
-    seen: &mut State,
+    course: &mut Course,
 ) -> bool
     requires index { IsTaskIndex task.now index.now.items }
     requires table { IsPairTable (atoms task.now) rows.old.items }
     requires flags { length flags.old ≡ atoms task.now + 1 }
-    requires mask { length mask.old ≡ atoms task.now }
-    requires seen { length seen.old ≡ atoms task.now }
+    requires course { IsCourse (atoms task.now) task.now.actions rows.old.items flags.old
+        course.old }
     requires ready { HaveTheirPairs (atoms task.now) task.now.actions rows.old.items flags.old }
     ensures turn { IsTurn (atoms task.now) rows.old.items flags.old
         rows.new.items flags.new result }
     ensures ready { HaveTheirPairs (atoms task.now) task.now.actions rows.new.items flags.new }
-    ensures mask { length mask.new ≡ atoms task.now }
-    ensures seen { length seen.new ≡ atoms task.now }
+    ensures course { IsCourse (atoms task.now) task.now.actions rows.new.items flags.new
+        course.new }
     ensures least { PairsGrowWithin (KeepAllPairs task.now.actions) rows.old.items rows.new.items }
 {
     let mut moved = false;
     for round in 0..task.atoms() {
         let _ = round;
-        match next_unseen(task.atoms(), rows, seen) {
+        match next_unseen(task.atoms(), rows, flags, &course.seen) {
             None => return moved,
             Some(atom) => {
-                seen.set(atom, true);
-                moved |= turn(task, index, rows, flags, mask, atom);
+                course.seen.set(atom, true);
+                moved |= turn(task, index, rows, flags, course, atom);
             }
         }
     }
     moved
 }
 
-// An atom that is in with itself and was not seen, if there is one.
-fn next_unseen(atoms: u32, rows: &Vec<State>, seen: &State) -> Option<u32>
+// An atom with a flag that is raised, that is in with itself and was not seen, if there is one.
+fn next_unseen(atoms: u32, rows: &Vec<State>, flags: &State, seen: &State) -> Option<u32>
     requires table { IsPairTable atoms rows.now.items }
+    requires flags { length flags.now ≡ atoms + 1 }
     requires seen { length seen.now ≡ atoms }
-    ensures { MatchOption result
-        ((q : ℕ) → q < atoms → has_pair rows.now.items q q ≡ true → has_atom seen.now q ≡ true)
-        (λ q. (q < atoms) × (has_pair rows.now.items q q ≡ true) × (has_atom seen.now q ≡ false)) }
+    ensures { IfSome result (λ q. q < atoms) }
 {
-    for atom in 0..atoms {
-        if !seen.has(atom) && rows[atom as usize].has(atom) {
-            return Some(atom);
+    let mut from = 0;
+    while let Some(flag) = next_raised(flags, from) {
+        if flag == atoms {
+            return None;
         }
+        if !seen.has(flag) && rows[flag as usize].has(flag) {
+            return Some(flag);
+        }
+        from = flag + 1;
     }
     None
+}
+
+// The next flag from this one on that is raised.
+fn next_raised(flags: &State, from: u32) -> Option<u32>
+    ensures { IfSome result (λ x. (from ≤ x) × (x < length flags.now)) }
+{
+    let mut hint = Hint::default();
+    flags.next(from, &mut hint)
 }
 
 // One turn for each flag.
@@ -200,24 +217,26 @@ fn sweep(
     index: &Vec<Vec<u32>>,
     rows: &mut Vec<State>,
     flags: &mut State,
-    mask: &mut State,
+    course: &mut Course,
 ) -> bool
     requires index { IsTaskIndex task.now index.now.items }
     requires table { IsPairTable (atoms task.now) rows.old.items }
     requires flags { length flags.old ≡ atoms task.now + 1 }
-    requires mask { length mask.old ≡ atoms task.now }
+    requires course { IsCourse (atoms task.now) task.now.actions rows.old.items flags.old
+        course.old }
     requires ready { HaveTheirPairs (atoms task.now) task.now.actions rows.old.items flags.old }
     ensures turn { IsTurn (atoms task.now) rows.old.items flags.old
         rows.new.items flags.new result }
     ensures quiet { result ≡ false → (x : ℕ) → x ≤ atoms task.now
         → has_atom flags.new x ≡ false }
     ensures ready { HaveTheirPairs (atoms task.now) task.now.actions rows.new.items flags.new }
-    ensures mask { length mask.new ≡ atoms task.now }
+    ensures course { IsCourse (atoms task.now) task.now.actions rows.new.items flags.new
+        course.new }
     ensures least { PairsGrowWithin (KeepAllPairs task.now.actions) rows.old.items rows.new.items }
 {
     let mut moved = false;
     for flag in 0..task.atoms() + 1 {
-        moved |= turn(task, index, rows, flags, mask, flag);
+        moved |= turn(task, index, rows, flags, course, flag);
     }
     moved
 }
@@ -228,28 +247,31 @@ pub(crate) fn turn(
     index: &Vec<Vec<u32>>,
     rows: &mut Vec<State>,
     flags: &mut State,
-    mask: &mut State,
+    course: &mut Course,
     flag: u32,
 ) -> bool
     requires flag { flag ≤ atoms task.now }
     requires index { IsTaskIndex task.now index.now.items }
     requires table { IsPairTable (atoms task.now) rows.old.items }
     requires flags { length flags.old ≡ atoms task.now + 1 }
-    requires mask { length mask.old ≡ atoms task.now }
+    requires course { IsCourse (atoms task.now) task.now.actions rows.old.items flags.old
+        course.old }
     requires ready { HaveTheirPairs (atoms task.now) task.now.actions rows.old.items flags.old }
     ensures turn { IsTurn (atoms task.now) rows.old.items flags.old
         rows.new.items flags.new result }
     ensures lowered { result ≡ false → has_atom flags.new flag ≡ false }
     ensures ready { HaveTheirPairs (atoms task.now) task.now.actions rows.new.items flags.new }
-    ensures mask { length mask.new ≡ atoms task.now }
+    ensures course { IsCourse (atoms task.now) task.now.actions rows.new.items flags.new
+        course.new }
     ensures least { PairsGrowWithin (KeepAllPairs task.now.actions) rows.old.items rows.new.items }
 {
     if !flags.has(flag) {
         return false;
     }
     flags.set(flag, false);
+    tell(task.atoms(), rows, &mut course.told, &mut course.news, flag);
     let row = &index[flag as usize];
-    wake(task, rows, flags, mask, row.as_slice())
+    wake(task, rows, flags, course, row.as_slice())
 }
 
 // Visits each of these actions, and says whether a pair is new.
@@ -257,50 +279,36 @@ fn wake(
     task: &Task,
     rows: &mut Vec<State>,
     flags: &mut State,
-    mask: &mut State,
+    course: &mut Course,
     numbers: &[u32],
 ) -> bool
     requires numbers { AreBelow (length task.now.actions) numbers.now }
     requires table { IsPairTable (atoms task.now) rows.old.items }
     requires flags { length flags.old ≡ atoms task.now + 1 }
-    requires mask { length mask.old ≡ atoms task.now }
+    requires told { IsTold (atoms task.now) rows.old.items flags.old course.old.told.items }
+    requires news { AreNewsBelow (atoms task.now) course.old.news }
+    requires sized { IsSized (atoms task.now) (length task.now.actions) course.old }
+    requires stand { StandAllBut numbers.now 0 (IsNews course.old.news) task.now.actions
+        course.old.told.items rows.old.items course.old.standing.items }
     requires ready { HaveTheirPairsBut numbers.now 0 (atoms task.now)
         task.now.actions rows.old.items flags.old }
     ensures step { IsPairStep (atoms task.now) rows.old.items flags.old
         rows.new.items flags.new result }
     ensures ready { HaveTheirPairs (atoms task.now) task.now.actions rows.new.items flags.new }
-    ensures mask { length mask.new ≡ atoms task.now }
+    ensures course { IsCourse (atoms task.now) task.now.actions rows.new.items flags.new
+        course.new }
     ensures least { PairsGrowWithin (KeepAllPairs task.now.actions) rows.old.items rows.new.items }
 {
     let mut moved = false;
     for number in numbers {
-        moved |= visit(task.atoms(), rows, flags, mask, task.action(*number));
+        moved |= visit(
+            task.atoms(),
+            rows,
+            flags,
+            course,
+            *number,
+            task.action(*number),
+        );
     }
     moved
-}
-
-// Puts in what the action gives. Afterwards it is ready.
-fn visit(
-    atoms: u32,
-    rows: &mut Vec<State>,
-    flags: &mut State,
-    mask: &mut State,
-    action: &Action,
-) -> bool
-    requires table { IsPairTable atoms rows.old.items }
-    requires flags { length flags.old ≡ atoms + 1 }
-    requires over { IsOver atoms action.now }
-    requires mask { length mask.old ≡ atoms }
-    ensures step { IsPairStep atoms rows.old.items flags.old rows.new.items flags.new result }
-    ensures ready { HasItsPairs atoms rows.new.items flags.new action.now }
-    ensures mask { length mask.new ≡ atoms }
-    ensures least { PairsGrowWithin (λ set. KeepsPairs set action.now)
-        rows.old.items rows.new.items }
-{
-    if !has_pairs(atoms, rows, action.pre.as_slice()) {
-        return false;
-    }
-    let first = mark_all(atoms, rows, flags, action.add.as_slice());
-    spared(atoms, rows, action, mask);
-    first | join_all(atoms, rows, flags, action.add.as_slice(), mask)
 }

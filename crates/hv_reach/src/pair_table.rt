@@ -72,8 +72,14 @@ fn mark_square(atoms: u32, rows: &mut Vec<State>, flags: &mut State, list: &[u32
     moved
 }
 
-// Puts the atom in with each of these.
-fn mark_row(atoms: u32, rows: &mut Vec<State>, flags: &mut State, first: u32, list: &[u32]) -> bool
+/// Puts the atom in with each of these, and says whether a pair is new.
+pub(crate) fn mark_row(
+    atoms: u32,
+    rows: &mut Vec<State>,
+    flags: &mut State,
+    first: u32,
+    list: &[u32],
+) -> bool
     requires table { IsPairTable atoms rows.old.items }
     requires flags { length flags.old ≡ atoms + 1 }
     requires below { AreBelow atoms list.now }

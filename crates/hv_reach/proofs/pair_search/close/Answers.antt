@@ -14,8 +14,7 @@ loop-moved-preserved c =
       grows = λ p q h. e.turn.grows p q (f.turn.grows p q (i.grows p q h));
       quiet = e.quiet;
       ready = e.ready;
-      mask = e.mask;
-      seen = f.seen;
+      course = e.course;
       least = λ r even keeps within. e.least r even keeps
           (f.least r even keeps (i.least r even keeps within));
     }

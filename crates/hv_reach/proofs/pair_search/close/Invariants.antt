@@ -2,6 +2,7 @@ use Rattle.std.proofs.Common.{◌≡◌, ◌≤◌, ◌+◌, ℕ, Bool, true, fa
 use Rattle.hv_task.specs.State.{has_atom}
 use Rattle.hv_task.specs.Strips.{atoms}
 use Rattle.hv_reach.specs.Reached.{has_pair}
+use Rattle.hv_reach.specs.Working.Course.{IsCourse}
 use Rattle.hv_reach.specs.Working.Table.{HaveTheirPairs, IsEven, IsPairTable, KeepAllPairs}
 use Rattle.hv_reach.specs.Working.Table.{PairsWithin, missing_cells}
 use Rattle.hv_reach.proofs.pair_search.close.Given as goal
@@ -13,8 +14,7 @@ invariant-loop-moved l = record {
   grows : (p q : ℕ) → has_pair l.fn.rows.items p q ≡ true → has_pair l.rows.items p q ≡ true;
   quiet : l.moved ≡ false → (x : ℕ) → x ≤ atoms l.task → has_atom l.flags x ≡ false;
   ready : HaveTheirPairs (atoms l.task) l.task.actions l.rows.items l.flags;
-  mask : length l.mask ≡ atoms l.task;
-  seen : length l.seen ≡ atoms l.task;
+  course : IsCourse (atoms l.task) l.task.actions l.rows.items l.flags l.course;
   least : (r : ℕ → ℕ → Bool) → IsEven r → KeepAllPairs l.task.actions r
       → PairsWithin l.fn.rows.items r → PairsWithin l.rows.items r;
 }

@@ -18,8 +18,7 @@ loop-round-preserved c =
           c.loop-round.flags c.chase-moved.new.flags c.loop-round.moved c.chase-moved.result i.turn
           f.turn) e.turn;
       ready = e.ready;
-      mask = e.mask;
-      seen = f.seen;
+      course = e.course;
       least = λ r even keeps within. e.least r even keeps
           (f.least r even keeps (i.least r even keeps within));
     }

@@ -14,6 +14,6 @@ loop-flag-preserved c =
           c.loop-flag.flags c.turn-moved.new.flags c.loop-flag.flag c.loop-flag.moved
           c.turn-moved.result e.turn i.quiet e.lowered;
       ready = e.ready;
-      mask = e.mask;
+      course = e.course;
       least = λ r even keeps within. e.least r even keeps (i.least r even keeps within);
     }

@@ -1,13 +1,17 @@
-use Rattle.std.proofs.Common.{◌≡◌, ℕ, Bool, length}
+use Rattle.std.proofs.Common.{◌-◌, ℕ, Bool, length}
 use Rattle.hv_task.specs.Strips.{atoms}
+use Rattle.hv_reach.specs.Working.Course.{IsCourse}
 use Rattle.hv_reach.specs.Working.Table.{HaveTheirPairs, IsEven, IsTurn, KeepAllPairs, PairsWithin}
 use Rattle.hv_reach.proofs.pair_search.sweep_short.Given as goal
 
-abbrev pub invariant-loop-atom : goal.invariant-loop-atom
-invariant-loop-atom l = record {
+abbrev pub invariant-loop-flag : goal.invariant-loop-flag
+invariant-loop-flag l = record {
   turn : IsTurn (atoms l.task) l.fn.rows.items l.fn.flags l.rows.items l.flags l.moved;
   ready : HaveTheirPairs (atoms l.task) l.task.actions l.rows.items l.flags;
-  mask : length l.mask ≡ atoms l.task;
+  course : IsCourse (atoms l.task) l.task.actions l.rows.items l.flags l.course;
   least : (r : ℕ → ℕ → Bool) → IsEven r → KeepAllPairs l.task.actions r
       → PairsWithin l.fn.rows.items r → PairsWithin l.rows.items r;
 }
+
+abbrev pub decreases-loop-flag : goal.decreases-loop-flag
+decreases-loop-flag l = length l.flags - l.from
