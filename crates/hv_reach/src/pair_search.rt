@@ -1,8 +1,8 @@
 //! The search for reached pairs: actions are visited until no row grows.
 //!
 //! There is one flag per atom and no queue of pairs: an action is visited again only where a row of
-//! an atom of its precondition grew, and is then told what is new in it (`pair_course`). The order of
-//! visits is left free by the proof, and was chosen by measuring: new atoms first, then the atoms
+//! an atom of its precondition grew, and is then told what is new in it (`pair_course`). The order
+//! of visits is left free by the proof, and was chosen by measuring: new atoms first, then the atoms
 //! that few actions ask for; the search ends when a sweep over all atoms moved nothing.
 
 ghost use Rattle.std.specs.Prelude.{◌≡◌, ◌≤◌, ◌<◌, ◌+◌, ℕ, true, false, length, IfSome};
