@@ -128,8 +128,11 @@ lone_forced atoms l less =
     forced_around atoms ((l ∷ []) ∷ []) (l ∷ []) (λ k past. omega (arith, past))
     (λ state size holds. alone (in_literal l state) holds)
     (All-cons (λ clause. IsSettled [] (marked atoms (l ∷ [])) clause) (l ∷ []) []
-    (inl (l, Contains-get_or (l ∷ []) 0 l (omega arith),
-    value_marked [] (marked atoms (l ∷ [])) l (known-replicate 0 l.atom) said))
+    (inl (
+      l,
+      Contains-get_or (l ∷ []) 0 l (omega arith),
+      value_marked [] (marked atoms (l ∷ [])) l (known-replicate 0 l.atom) said,
+    ))
     (All-nil (λ clause. IsSettled [] (marked atoms (l ∷ [])) clause)))
   where
     said : known (marked atoms (l ∷ [])) l.atom ≡ Some l.positive
@@ -164,9 +167,8 @@ one_only (x ∷ y ∷ xs) d one = absurd (omega (arith, one))
 pub lone_of : (clauses : List (List Literal)) (clause : List Literal) → length clauses ≡ 1
     → slice_get clauses 0 ≡ Some clause → length clause ≡ 1 → IsLone clauses
 lone_of clauses clause one at short =
-    let d : Literal = record { atom = 0; positive = false } in
-    (
+    let d : Literal = record { atom = 0; positive = false } in (
       get_or clause 0 d,
       one_only clauses clause one ∙ ap (λ c. c ∷ [])
-      (get_or_from_slice_get clauses 0 clause clause at ∙ one_only clause d short),
+          (get_or_from_slice_get clauses 0 clause clause at ∙ one_only clause d short),
     )

@@ -2,8 +2,8 @@
 //! they force.
 //!
 //! These are kept as literals by rising atoms, and not as a mark an atom, so that many small
-//! formulas over many atoms take memory by their size. Of one clause of one literal nothing is kept:
-//! that literal is what it forces, so the clause itself is handed out. What `unit_rounds` of
+//! formulas over many atoms take memory by their size. Of one clause of one literal nothing is
+//! kept: that literal is what it forces, so the clause itself is handed out. What `unit_rounds` of
 //! hv_propagation don't come to the end of is found out along a trail.
 //!
 //! Where values have to be tried to find a state, propagation doesn't show that there is none. This

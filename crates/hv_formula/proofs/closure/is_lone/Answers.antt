@@ -1,4 +1,4 @@
-use Rattle.std.proofs.Common.{◌≡◌, arith}
+use Rattle.std.proofs.Common.{arith}
 use Rattle.hv_formula.proofs.Forced.{lone_of}
 use Rattle.hv_formula.proofs.closure.is_lone.Goals as goal
 

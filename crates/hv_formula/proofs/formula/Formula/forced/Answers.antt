@@ -1,4 +1,4 @@
-use Rattle.std.proofs.Common.{ap, subst}
+use Rattle.std.proofs.Common.{subst}
 use Rattle.hv_propagation.specs.Forced.{AreForced}
 use Rattle.hv_formula.specs.Clausal.{FormulaState}
 use Rattle.hv_formula.proofs.Forced.{lone_found}
