@@ -18,7 +18,7 @@ use hv_horn::{DualHorn, Horn};
 use hv_lines::Expr;
 use hv_sets::{Cube, Scratch, StateSet, Which};
 use hv_task::State;
-use hv_twocnf::TwoCnf;
+use hv_twocnf::LeanTwoCnf;
 use std::alloc::{AllocError, Global};
 
 /// A formula of one of the five families.
@@ -26,7 +26,7 @@ use std::alloc::{AllocError, Global};
 pub(crate) enum AnyFormula<'a> {
     Horn(&'a Horn),
     Dual(&'a DualHorn),
-    Two(&'a TwoCnf),
+    Two(&'a LeanTwoCnf),
     States(&'a Explicit),
     Node(DiagramSet<'a>),
 }

@@ -27,7 +27,7 @@ use hv_horn::{DualHorn, Horn};
 use hv_lines::{Clash, Expr, FormulaFamily, Verdict};
 use hv_paths::{InsideAsk, OutsideWalk, meet_along};
 use hv_sets::{Clauses, Finding, Outside, Scratch};
-use hv_twocnf::TwoCnf;
+use hv_twocnf::LeanTwoCnf;
 use std::alloc::{AllocError, Global};
 
 /// So many clauses and literals a set has a joint formula at most.
@@ -38,7 +38,7 @@ const MOST_EACH: usize = 8;
 pub(crate) enum JointFormula {
     Horn(Horn),
     Dual(DualHorn),
-    Two(TwoCnf),
+    Two(LeanTwoCnf),
 }
 
 /// The formula with the clauses of all these sets, which are formulas of the family, if that is one

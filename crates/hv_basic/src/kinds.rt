@@ -12,7 +12,7 @@ use hv_formula::ClauseKind;
 use hv_horn::{DualHornKind, HornKind};
 use hv_lines::Expr;
 use hv_sets::{Clauses, Literal};
-use hv_twocnf::TwoKind;
+use hv_twocnf::LeanTwoKind;
 
 /// Whether the clauses of the set, if it is a formula in clauses, are of its family.
 pub fn is_of_its_family(expr: &Expr) -> bool
@@ -21,7 +21,7 @@ pub fn is_of_its_family(expr: &Expr) -> bool
     match expr {
         Expr::Horn(clauses) => are_of::<HornKind>(clauses),
         Expr::Dual(clauses) => are_of::<DualHornKind>(clauses),
-        Expr::Two(clauses) => are_of::<TwoKind>(clauses),
+        Expr::Two(clauses) => are_of::<LeanTwoKind>(clauses),
         Expr::Constant(_) | Expr::States(_) | Expr::Node(_) | Expr::Not(_) => true,
         Expr::And(..) | Expr::Or(..) | Expr::After(..) | Expr::Before(..) => true,
     }

@@ -30,7 +30,7 @@ use hv_horn::{DualHorns, Horns};
 use hv_lines::{Constant, Expr, Line};
 use hv_sets::{Clauses, StateList, Which};
 use hv_task::Task;
-use hv_twocnf::TwoCnfs;
+use hv_twocnf::LeanTwoCnfs;
 use std::alloc::{AllocError, Global};
 use std::marker::Model;
 
@@ -44,7 +44,7 @@ pub struct Store {
     alloc: Global,
     horns: Horns,
     duals: DualHorns,
-    twos: TwoCnfs,
+    twos: LeanTwoCnfs,
     listed: Explicits,
     // What the set of each `e` line is named by in the store of its family.
     names: Vec<Which>,
@@ -86,7 +86,7 @@ impl Store {
             alloc,
             horns: Horns::new(alloc),
             duals: DualHorns::new(alloc),
-            twos: TwoCnfs::new(alloc),
+            twos: LeanTwoCnfs::new(alloc),
             listed: Explicits::new(alloc),
             names: Vec::new(alloc),
             rows: None,
@@ -150,7 +150,7 @@ impl Store {
     }
 
     /// The 2CNF formulas.
-    pub(crate) fn twos(&self) -> &TwoCnfs
+    pub(crate) fn twos(&self) -> &LeanTwoCnfs
         ensures { result.now ≡ self.now.twos }
     {
         &self.twos
