@@ -133,6 +133,15 @@ fn is_state(states: &StateList, place: usize, atoms: &[u32]) -> bool {
     states.get(place).slice(&mut buffer) == atoms
 }
 
+// How many atoms the state at the place has, and its least one.
+fn count_and_least(states: &StateList, place: usize) -> (usize, Option<u32>) {
+    if place >= states.len() {
+        return (0, None);
+    }
+    let state = states.get(place);
+    (state.len(), state.first())
+}
+
 // Whether a copy of the one state stays where the list gets a further one.
 fn state_copy_stays(alloc: Global, states: &mut StateList) -> Result<bool, AllocError> {
     let copy = states.copy(alloc)?;
@@ -171,7 +180,7 @@ fn dense_states(alloc: Global) -> Result<StateList, AllocError> {
 fn dense_states_stay(alloc: Global) -> Result<bool, AllocError> {
     let mut states = dense_states(alloc)?;
     let copy = states.copy(alloc)?;
-    let are_read = is_state(&states, 0, &DENSE) && states.get(1).len() == 9;
+    let are_read = is_state(&states, 0, &DENSE) && count_and_least(&states, 1) == (9, Some(1));
     states.push_atoms(&GREAT)?;
     let are_more = states.len() == 3 && is_state(&states, 1, &OTHER) && is_state(&states, 2, &GREAT);
     Ok(are_read && are_more && copy.len() == 2 && is_state(&copy, 0, &DENSE))
