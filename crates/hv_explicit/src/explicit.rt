@@ -32,8 +32,9 @@ use crate::state_index::{
     StateIndex, firsts_in, held_in, index_of, is_in, kept_code, lists_in, place_in, start_in,
     state_in,
 };
-use hv_sets::{Cube, Cursor, Inside, ListedState, Literal, Scratch, StateBuffer, StateList, StateSet};
-use hv_sets::Step;
+use hv_sets::{
+    Cube, Cursor, Inside, ListedState, Literal, Scratch, StateBuffer, StateList, StateSet, Step,
+};
 use hv_task::{Action, Atoms, State, Task, names_atom};
 use std::alloc::{AllocError, Global};
 use std::marker::Model;

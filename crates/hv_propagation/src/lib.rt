@@ -8,9 +8,9 @@
 //!   action does before anything else is read. `literals` tells which literals are true then, and
 //!   makes them true or false.
 //! - `chase` looks at the clauses that have a literal that became false: the indexes of hv_indexes
-//!   say which these are, and what follows in those of two literals, of which `found_run` passes
-//!   over those that are true already, and `watched` looks into longer ones. `falsified` begins at
-//!   those of which an effect makes a literal false.
+//!   say which these are, and what follows in those of two literals, which `found_run` makes true
+//!   in one go where there is no effect, and `watched` looks into longer ones. `falsified` begins
+//!   at those of which an effect makes a literal false.
 //! - `constraint` says what a condition owes so that `propagation` follows it up to its end and
 //!   completes the assignment to a state, in one of two ways (`completion`). Clauses with their
 //!   index are such a condition.

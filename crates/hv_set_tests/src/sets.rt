@@ -164,7 +164,9 @@ fn a_copy_of_shared_states_stays(rt: HostRuntime) -> Result<(), Fail> {
 // Two states of nine atoms below 256, as many as are kept in one byte each, and one that has a
 // greater one.
 const DENSE: [u32; 9] = [0, 1, 2, 3, 4, 5, 6, 7, 255];
+
 const OTHER: [u32; 9] = [1, 2, 3, 4, 5, 6, 7, 8, 9];
+
 const GREAT: [u32; 9] = [0, 1, 2, 3, 4, 5, 6, 7, 256];
 
 // A list of the first two, which shares them.
@@ -182,7 +184,9 @@ fn dense_states_stay(alloc: Global) -> Result<bool, AllocError> {
     let copy = states.copy(alloc)?;
     let are_read = is_state(&states, 0, &DENSE) && count_and_least(&states, 1) == (9, Some(1));
     states.push_atoms(&GREAT)?;
-    let are_more = states.len() == 3 && is_state(&states, 1, &OTHER) && is_state(&states, 2, &GREAT);
+    let are_more = states.len() == 3
+        && is_state(&states, 1, &OTHER)
+        && is_state(&states, 2, &GREAT);
     Ok(are_read && are_more && copy.len() == 2 && is_state(&copy, 0, &DENSE))
 }
 

@@ -15,10 +15,7 @@ const MANY_ATOMS: usize = 8;
 
 /// The states in one byte an atom, where no atom is above 255, none holds more than 64, and they
 /// hold eight or more as a mean.
-pub(crate) fn narrowed(
-    alloc: Global,
-    parts: Parts<'_, u32>,
-) -> Result<Option<Flat<u8>>, AllocError>
+pub(crate) fn narrowed(alloc: Global, parts: Parts<'_, u32>) -> Result<Option<Flat<u8>>, AllocError>
     requires { EndWithin parts.items.now 0 parts.ends.now }
     ensures same { IfOk result (λ found. IfSome found (λ flat.
         flat ≡ gathered parts.entry.items.now parts.entry.ends.now)) }

@@ -114,8 +114,6 @@ fn shared_flat(alloc: Global, flat: Flat<u32>) -> Result<StatePieces, AllocError
 {
     match narrowed(alloc, flat.parts())? {
         Some(narrow) => Ok(StatePieces::Narrow(Rc::new(alloc, narrow)?)),
-        None => Ok(StatePieces::Wide(
-            SharedPieces::Alone(flat).share(alloc)?,
-        )),
+        None => Ok(StatePieces::Wide(SharedPieces::Alone(flat).share(alloc)?)),
     }
 }

@@ -15,7 +15,8 @@ look_up-requires-clause-code c =
 pub returns-then-look_up-clause-firsts : goal.returns-then-look_up-clause-firsts
 returns-then-look_up-clause-firsts c = λ _.
     firsts_there c.args.states.now c.args.firsts.now.places.items c.args.place
-    c.slice.result.now (c.get.ensures.state ∙ ap Some (sym c.slice.ensures.atoms)) c.requires.rise c.requires.firsts
+    c.slice.result.now (c.get.ensures.state ∙ ap Some (sym c.slice.ensures.atoms))
+    c.requires.rise c.requires.firsts
     (subst (λ xs. IsEnteredState (names_atom xs) c.args.states.now c.args.firsts.now.places.items)
     c.new-held.ensures.atoms (c.look_up.ensures.0 c.if-look_up.true))
 
@@ -24,7 +25,8 @@ returns-clause-firsts c = λ _.
     subst (λ firsts. AreFirsts c.args.states.now firsts (c.args.place + 1))
     (sym c.in_ok-push-2.ensures.items)
     (firsts_more c.args.states.now c.args.firsts.now.places.items c.args.place
-    c.slice.result.now (c.get.ensures.state ∙ ap Some (sym c.slice.ensures.atoms)) c.requires.firsts)
+    c.slice.result.now (c.get.ensures.state ∙ ap Some (sym c.slice.ensures.atoms))
+    c.requires.firsts)
 
 pub returns-clause-index : goal.returns-clause-index
 returns-clause-index c = λ _.
@@ -34,7 +36,8 @@ returns-clause-index c = λ _.
     (c.args.firsts.now.codes ++ c.new-held.result.code ∷ []) firsts
     c.args.states.now) (sym c.in_ok-push-2.ensures.items)
     (index_more c.args.states.now c.args.firsts.now.places.items c.args.place
-    c.slice.result.now (c.get.ensures.state ∙ ap Some (sym c.slice.ensures.atoms)) c.args.firsts.now.key c.args.firsts.now.codes
+    c.slice.result.now (c.get.ensures.state ∙ ap Some (sym c.slice.ensures.atoms))
+    c.args.firsts.now.key c.args.firsts.now.codes
     c.new-held.result.code c.requires.index
     (subst (λ xs. IsListCode c.args.firsts.now.key xs c.new-held.result.code)
     c.new-held.ensures.atoms (subst (λ key. IsListCode key c.new-held.result.atoms.now

@@ -15,7 +15,8 @@ loop-place-preserved c =
     (λ all. both_ways c.names_each.result c.if-names_each.false
     (c.names_each.ensures.1
     (subst (λ (xs : List ℕ). All (λ p. Contains xs p) c.as_slice.result.now)
-    (get_or_from_slice_get states place c.slice-held.result.now [] (c.get.ensures.state ∙ ap Some (sym c.slice-held.ensures.atoms)))
+    (get_or_from_slice_get states place c.slice-held.result.now []
+    (c.get.ensures.state ∙ ap Some (sym c.slice-held.ensures.atoms)))
     (subst (λ (ys : List ℕ). All (λ p. Contains (get_or states place []) p) ys)
     (sym c.as_slice.ensures.items) all))))
 

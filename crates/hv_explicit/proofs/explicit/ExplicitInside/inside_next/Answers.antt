@@ -10,11 +10,13 @@ returns-clause-step c =
     subst (λ (set : ListedStates). drop c.args.cursor.now.place (full_cubes set) ≡ c.fill.new.cube
     ∷ drop (c.args.cursor.now.place + 1) (full_cubes set))
     c.self.view_is
-    (cube_taken c.self.inside.atoms c.self.inside.states c.args.cursor.now.place c.slice-held.result.now
+    (cube_taken c.self.inside.atoms c.self.inside.states c.args.cursor.now.place
+    c.slice-held.result.now
     c.fill.new.cube
     (let len = c.len.ensures in let less = c.if-cursor-len.false in omega arith)
     (sym (get_or_from_slice_get c.self.inside.states c.args.cursor.now.place c.slice-held.result.now
-    c.slice-held.result.now (c.get.ensures.state ∙ ap Some (sym c.slice-held.ensures.atoms)))) c.in_ok-fill.ensures)
+    c.slice-held.result.now (c.get.ensures.state ∙ ap Some (sym c.slice-held.ensures.atoms))))
+    c.in_ok-fill.ensures)
 
 pub returns-clause-cube : goal.returns-clause-cube
 returns-clause-cube c =
