@@ -33,7 +33,7 @@ use crate::state_index::{
     state_in,
 };
 use hv_sets::{
-    Cube, Cursor, Inside, ListedState, Literal, Scratch, StateBuffer, StateList, StateSet, Step,
+    Cube, Cursor, Inside, KeptState, Literal, Scratch, StateBuffer, StateList, StateSet, Step,
 };
 use hv_task::{Action, Atoms, State, Task, names_atom};
 use std::alloc::{AllocError, Global};
@@ -211,7 +211,7 @@ impl Explicit {
     }
 
     /// The atoms of the state at this place, rising.
-    pub(crate) fn atoms_at(&self, place: usize) -> ListedState<'_>
+    pub(crate) fn atoms_at(&self, place: usize) -> KeptState<'_>
         requires { place < length self.now.states }
         ensures atoms { result ≡ slice_index_or self.now.states place [] }
         ensures below { AreBelow self.now.atoms result }

@@ -48,7 +48,7 @@ use crate::results::is_left;
 use crate::sought::{ActionResult, Coded, SomeState, Sought};
 use crate::state_owners::{ListedAt, StateOwners};
 use crate::state_word::StateWord;
-use hv_sets::{Finding, ListedState, Operand, Query, StateBuffer, Which};
+use hv_sets::{Finding, KeptState, Operand, Query, StateBuffer, Which};
 use hv_task::{Action, State, Task};
 use std::alloc::{AllocError, Global};
 use std::marker::Model;
@@ -386,7 +386,7 @@ impl SetsQuery<'_> {
 
     // Whether the state of these atoms is no counterexample, because the state of the guess is what
     // the action makes of it.
-    fn is_settled(&self, guess: ListedAt, held: ListedState<'_>, spaces: &mut Spaces) -> bool
+    fn is_settled(&self, guess: ListedAt, held: KeptState<'_>, spaces: &mut Spaces) -> bool
         requires { AreBelow (atoms self.now.task) held }
         ensures { IsTrue result → clashes_at self.now held.entry ≡ false }
     {
@@ -401,7 +401,7 @@ impl SetsQuery<'_> {
     fn is_result_hit(
         &self,
         guess: ListedAt,
-        held: ListedState<'_>,
+        held: KeptState<'_>,
         action: &Action,
         spaces: &mut Spaces,
     ) -> bool

@@ -16,7 +16,7 @@ ghost use Rattle.std.specs.Prelude.{ℕ, List, IfOk, IfSome, ◌≡◌};
 ghost use Rattle.hv_sets.specs.declared.literal.Literal.{Literal};
 ghost use Rattle.hv_paths.specs.Along.{IsStop, TakesPath};
 
-use hv_sets::{ListedState, Literal};
+use hv_sets::{KeptState, Literal};
 use hv_task::State;
 use std::alloc::AllocError;
 
@@ -24,7 +24,7 @@ use std::alloc::AllocError;
 /// holds and as a state.
 pub enum WalkStop<'a> {
     Cube(&'a [Literal]),
-    State(ListedState<'a>, &'a State),
+    State(KeptState<'a>, &'a State),
 }
 
 /// A walk over cubes, each written in the order of the walk. Many begin as the one before.

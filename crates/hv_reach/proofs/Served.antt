@@ -23,13 +23,13 @@ use Rattle.hv_reach.proofs.Turns.{lowered_stays}
 use Rattle.hv_reach.specs.declared.pair_course.Glance.{Glance}
 use Rattle.hv_reach.specs.declared.pair_course.Lack.{Lack}
 use Rattle.hv_reach.specs.declared.pair_course.News.{News}
-use Rattle.hv_reach.specs.declared.pair_course.Standing.{Standing}
-use Rattle.hv_reach.specs.declared.pair_course.Standing.TheVariants as S
+use Rattle.hv_reach.specs.declared.pair_course.ActionStanding.{ActionStanding}
+use Rattle.hv_reach.specs.declared.pair_course.ActionStanding.TheVariants as S
 use Rattle.hv_reach.specs.Index.{IsActionIndex}
 use Rattle.hv_reach.specs.Reached.{HasPairsOf, LeavesAlone, has_pair}
 use Rattle.hv_reach.specs.Working.Course.{AreNewsBelow, ArePairedBefore, IsGlance, IsLack}
 use Rattle.hv_reach.specs.Working.Course.{IsNews, IsServed}
-use Rattle.hv_reach.specs.Working.Course.{IsTelling, IsTold, StandAll, StandAllBut, StandsSo}
+use Rattle.hv_reach.specs.Working.Course.{IsTelling, IsRowTold, StandAll, StandAllBut, StandsSo}
 use Rattle.hv_reach.specs.Working.Table.{HasItsPairs, IsJoined, IsPairStep, IsPairTable}
 
 -- every pair of the old table is in the new one
@@ -38,8 +38,8 @@ Grows old new = (p q : ℕ) → has_pair old p q ≡ true → has_pair new p q �
 
 -- what was told stays so after a step
 pub told_step : (n : ℕ) (old new : List (List Bool)) (flags raised : List Bool) (m : Bool)
-    (told : List (List Bool)) → IsPairStep n old flags new raised m → IsTold n old flags told
-    → IsTold n new raised told
+    (told : List (List Bool)) → IsPairStep n old flags new raised m → IsRowTold n old flags told
+    → IsRowTold n new raised told
 told_step n old new flags raised m told step before = record {
   size = before.size;
   each = before.each;
@@ -65,8 +65,8 @@ first_within rows p q h =
 
 -- and where a row is told, and its flag lowered
 pub told_lowered : (n : ℕ) (rows old new : List (List Bool)) (flags : List Bool) (x : ℕ)
-    (news : News) → IsPairTable n rows → IsTold n rows flags old → IsTelling n rows old new x news
-    → IsTold n rows (set flags x false) new
+    (news : News) → IsPairTable n rows → IsRowTold n rows flags old → IsTelling n rows old new x news
+    → IsRowTold n rows (set flags x false) new
 told_lowered n rows old new flags x news table before tells = record {
   size = tells.size;
   each = tells.each;
@@ -91,7 +91,7 @@ told_lowered n rows old new flags x news table before tells = record {
 pub told_start : (n : ℕ) (old new : List (List Bool)) (flags raised : List Bool) (m : Bool)
     (told : List (List Bool)) → IsPairStep n old flags new raised m
     → ((p q : ℕ) → has_pair old p q ≡ false) → ((p q : ℕ) → has_pair told p q ≡ false)
-    → IsPairTable n told → n < length raised → IsTold n new (set raised n true) told
+    → IsPairTable n told → n < length raised → IsRowTold n new (set raised n true) told
 told_start n old new flags raised m told step none nothing table less = record {
   size = table.size;
   each = table.each;
@@ -132,7 +132,7 @@ served_grows But told old new a grows is = record {
 }
 
 pub stands_grows : (But : ℕ → Type 0) (told old new : List (List Bool)) (a : Action)
-    (s : Standing) → Grows old new → StandsSo But told old a s → StandsSo But told new a s
+    (s : ActionStanding) → Grows old new → StandsSo But told old a s → StandsSo But told new a s
 stands_grows But told old new a S.New grows is = is
 stands_grows But told old new a (S.Lacks lack) grows is = lack_grows old new a.pre lack grows is
 stands_grows But told old new a (S.Ready glance) grows is =
@@ -150,7 +150,7 @@ served_weak But told rows a is = record {
   ];
 }
 
-pub stands_weak : (But : ℕ → Type 0) (told rows : List (List Bool)) (a : Action) (s : Standing)
+pub stands_weak : (But : ℕ → Type 0) (told rows : List (List Bool)) (a : Action) (s : ActionStanding)
     → StandsSo (λ q. ⊥) told rows a s → StandsSo But told rows a s
 stands_weak But told rows a S.New is = is
 stands_weak But told rows a (S.Lacks lack) is = is
@@ -204,20 +204,20 @@ module _ (n : ℕ) (rows old new : List (List Bool)) (x : ℕ) (news : News)
         ]);
   }
 
-  stands_told : (a : Action) (s : Standing) → StandsSo (λ q. ⊥) old rows a s
+  stands_told : (a : Action) (s : ActionStanding) → StandsSo (λ q. ⊥) old rows a s
       → StandsSo (IsNews news) new rows a s
   stands_told a S.New is = is
   stands_told a (S.Lacks lack) is = is
   stands_told a (S.Ready glance) is = (is.0, served_told a is.1)
 
-  stands_apart : (a : Action) (s : Standing) → (Contains a.pre x → ⊥)
+  stands_apart : (a : Action) (s : ActionStanding) → (Contains a.pre x → ⊥)
       → StandsSo (λ q. ⊥) old rows a s → StandsSo (λ q. ⊥) new rows a s
   stands_apart a S.New apart is = is
   stands_apart a (S.Lacks lack) apart is = is
   stands_apart a (S.Ready glance) apart is = (is.0, served_apart a apart is.1)
 
   pub stand_told : (actions : List Action) (index : List (Vec ℕ)) (row : Vec ℕ)
-      (standing : List Standing) → IsActionIndex n actions index → slice_get index x ≡ Some row
+      (standing : List ActionStanding) → IsActionIndex n actions index → slice_get index x ≡ Some row
       → StandAll (λ q. ⊥) actions old rows standing
       → StandAllBut row.items 0 (IsNews news) actions new rows standing
   stand_told actions index row standing is_index at_row before k a s is at =
@@ -237,7 +237,7 @@ module _ (n : ℕ) (rows old new : List (List Bool)) (x : ℕ) (news : News)
 
 -- what is known of the next action that is visited
 pub stand_next : (numbers : List ℕ) (i x : ℕ) (But : ℕ → Type 0) (actions : List Action)
-    (told rows : List (List Bool)) (standing : List Standing) (a : Action) (s : Standing)
+    (told rows : List (List Bool)) (standing : List ActionStanding) (a : Action) (s : ActionStanding)
     → StandAllBut numbers i But actions told rows standing → slice_get actions x ≡ Some a
     → slice_get standing x ≡ Some s → StandsSo But told rows a s
 stand_next numbers i x But actions told rows standing a s before is at =
@@ -248,11 +248,11 @@ stand_next numbers i x But actions told rows standing a s before is at =
 
 -- after a visit of one more
 pub stand_more : (numbers : List ℕ) (i x : ℕ) (But : ℕ → Type 0) (actions : List Action)
-    (told old new : List (List Bool)) (standing after : List Standing) (b : Action)
+    (told old new : List (List Bool)) (standing after : List ActionStanding) (b : Action)
     → x ≡ get_or numbers i 0 → Grows old new
     → StandAllBut numbers i But actions told old standing → slice_get actions x ≡ Some b
     → ((k : ℕ) → (k ≡ x → ⊥) → slice_get after k ≡ slice_get standing k)
-    → ((s : Standing) → slice_get after x ≡ Some s → StandsSo (λ q. ⊥) told new b s)
+    → ((s : ActionStanding) → slice_get after x ≡ Some s → StandsSo (λ q. ⊥) told new b s)
     → StandAllBut numbers (i + 1) But actions told new after
 stand_more numbers i x But actions told old new standing after b e grows before is_b others here
     k a s is at =
@@ -282,7 +282,7 @@ stand_more numbers i x But actions told old new standing after b e grows before 
 
 -- when none is left
 pub stand_end : (numbers : List ℕ) (i : ℕ) (But : ℕ → Type 0) (actions : List Action)
-    (told rows : List (List Bool)) (standing : List Standing) → length numbers ≤ i
+    (told rows : List (List Bool)) (standing : List ActionStanding) → length numbers ≤ i
     → StandAllBut numbers i But actions told rows standing
     → StandAll (λ q. ⊥) actions told rows standing
 stand_end numbers i But actions told rows standing past all k a s is at =
@@ -309,7 +309,7 @@ lack_ready n rows flags a lack is out = inl record {
 
 -- one that is served is ready
 pub served_ready : (n : ℕ) (rows : List (List Bool)) (flags : List Bool)
-    (told : List (List Bool)) (a : Action) → IsTold n rows flags told
+    (told : List (List Bool)) (a : Action) → IsRowTold n rows flags told
     → IsServed (λ q. ⊥) told rows a → HasItsPairs n rows flags a
 served_ready n rows flags told a is_told is =
     elim (quiet_or n flags a) [
@@ -330,7 +330,7 @@ served_ready n rows flags told a is_told is =
 
 -- it is served where all that it gives was put in
 pub given_served : (n : ℕ) (told old new : List (List Bool)) (flags : List Bool) (a : Action)
-    → IsPairTable n old → IsTold n old flags told → 0 < length a.pre → Grows old new
+    → IsPairTable n old → IsRowTold n old flags told → 0 < length a.pre → Grows old new
     → HasPairsOf (has_pair old) a.pre → HasPairsOf (has_pair new) a.add
     → ((q : ℕ) → LeavesAlone a q → IsJoined (has_pair old) a.pre q
     → All (λ p. has_pair new p q ≡ true) a.add) → IsServed (λ q. ⊥) told new a
@@ -345,7 +345,7 @@ given_served n told old new flags a table is_told some grows pre add other = rec
 
 -- and where that was done for the news
 pub followed_served : (n : ℕ) (told old new : List (List Bool)) (flags : List Bool) (a : Action)
-    (news : News) → IsTold n old flags told → Grows old new → news.many ≡ false
+    (news : News) → IsRowTold n old flags told → Grows old new → news.many ≡ false
     → IsServed (IsNews news) told old a
     → ((k : ℕ) → k < news.count → LeavesAlone a (get_or news.atoms.items k 0)
     → All (λ p. has_pair old p (get_or news.atoms.items k 0) ≡ true) a.pre
@@ -542,7 +542,7 @@ got_here (x ∷ xs) Prim.Native.Nat.zero y z at = cc at
 got_here (x ∷ xs) (suc i) y z at = got_here xs i y z at
 
 -- how an action stands that was found to lack no pair
-pub stands_entered : (told rows : List (List Bool)) (a : Action) (s : Standing)
+pub stands_entered : (told rows : List (List Bool)) (a : Action) (s : ActionStanding)
     → ((glance : Glance) → s ≡ S.Ready glance → IsGlance a.pre glance)
     → ((lack : Lack) → s ≡ S.Lacks lack → ⊥)
     → (0 < length a.pre → IsServed (λ q. ⊥) told rows a) → StandsSo (λ q. ⊥) told rows a s
@@ -553,7 +553,7 @@ stands_entered told rows a (S.Ready glance) glances lacks served =
     (g, served (let less = g.0.1 in omega arith))
 
 -- where nothing is known
-pub stand_new : (actions : List Action) (told rows : List (List Bool)) (standing : List Standing)
+pub stand_new : (actions : List Action) (told rows : List (List Bool)) (standing : List ActionStanding)
     → length standing ≡ length actions
     → ((k : ℕ) → k < length actions → slice_get standing k ≡ Some S.New)
     → StandAll (λ q. ⊥) actions told rows standing
@@ -598,20 +598,20 @@ row_size n rows row p table less at =
 
 -- how an action stood that stands so
 pub stood : (But : ℕ → Type 0) (told rows : List (List Bool)) (a : Action)
-    (standing : List Standing) (k : ℕ) (r s : Standing) → k < length standing
+    (standing : List ActionStanding) (k : ℕ) (r s : ActionStanding) → k < length standing
     → r ≡ get_or standing k r → r ≡ s
-    → ((t : Standing) → slice_get standing k ≡ Some t → StandsSo But told rows a t)
+    → ((t : ActionStanding) → slice_get standing k ≡ Some t → StandsSo But told rows a t)
     → StandsSo But told rows a s
 stood But told rows a standing k r s less at same all =
     subst (StandsSo But told rows a) same (all r (slice_get_at standing k r less at))
 
-pub stood_same : (standing : List Standing) (k : ℕ) (r s t : Standing) → k < length standing
+pub stood_same : (standing : List ActionStanding) (k : ℕ) (r s t : ActionStanding) → k < length standing
     → r ≡ get_or standing k r → r ≡ s → slice_get standing k ≡ Some t → s ≡ t
 stood_same standing k r s t less at same is =
     let here = slice_get_at standing k r less at in
     let e : r ≡ t = cc in sym same ∙ e
 
 -- a pair that is missing
-pub lack_same : (s : Standing) (lack other : Lack) → S.Lacks lack ≡ s → s ≡ S.Lacks other
+pub lack_same : (s : ActionStanding) (lack other : Lack) → S.Lacks lack ≡ s → s ≡ S.Lacks other
     → lack ≡ other
 lack_same s lack other e f = let g = e ∙ f in cc

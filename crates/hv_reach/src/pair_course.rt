@@ -16,7 +16,7 @@ ghost use Rattle.hv_reach.specs.Reached.{HasPairsOf, has_pair};
 ghost use Rattle.hv_reach.specs.Working.Course.{AreNewsBelow, ArePairedBefore, IsLack, IsNews};
 ghost use Rattle.hv_reach.specs.Working.Course.{IsSized, IsTelling};
 ghost use Rattle.hv_reach.specs.Working.Table.{IsPairTable};
-ghost use Rattle.hv_reach.specs.declared.pair_course.Standing.TheVariants as S;
+ghost use Rattle.hv_reach.specs.declared.pair_course.ActionStanding.TheVariants as S;
 
 use crate::pair_table::table;
 use hv_task::State;
@@ -40,7 +40,7 @@ pub(crate) struct Glance {
 
 /// How an action stands.
 #[derive(Clone, Copy)]
-pub(crate) enum Standing {
+pub(crate) enum ActionStanding {
     /// Nothing is known of it.
     New,
     /// It lacks a pair of its precondition, or did when it was visited last.
@@ -64,7 +64,7 @@ pub(crate) struct Course {
     pub(crate) told: Vec<State>,
     /// What is new in the row that they are told of.
     pub(crate) news: News,
-    pub(crate) standing: Vec<Standing>,
+    pub(crate) standing: Vec<ActionStanding>,
     /// The atoms that were new once.
     pub(crate) seen: State,
     /// Space.
@@ -90,7 +90,7 @@ pub(crate) fn new_course(alloc: Global, atoms: u32, actions: u32) -> Result<Cour
             count: 0,
             many: false,
         },
-        standing: vec![in alloc; Standing::New; actions as usize]?,
+        standing: vec![in alloc; ActionStanding::New; actions as usize]?,
         seen: State::empty(alloc, atoms)?,
         mask: State::empty(alloc, atoms)?,
     })

@@ -10,7 +10,7 @@ ghost use Rattle.hv_task.specs.State.{AreBelow, has_atom};
 ghost use Rattle.hv_task.specs.Strips.{atoms};
 ghost use Rattle.hv_reach.specs.Reached.{has_pair};
 ghost use Rattle.hv_reach.specs.Index.{IsTaskIndex};
-ghost use Rattle.hv_reach.specs.Working.Course.{AreNewsBelow, IsCourse, IsNews, IsSized, IsTold};
+ghost use Rattle.hv_reach.specs.Working.Course.{AreNewsBelow, IsCourse, IsNews, IsSized, IsRowTold};
 ghost use Rattle.hv_reach.specs.Working.Course.{StandAllBut};
 ghost use Rattle.hv_reach.specs.Working.Table.{HaveTheirPairs, HaveTheirPairsBut, IsPairStep};
 ghost use Rattle.hv_reach.specs.Working.Table.{IsPairTable, IsTurn, KeepAllPairs};
@@ -285,7 +285,7 @@ fn wake(
     requires numbers { AreBelow (length task.now.actions) numbers.now }
     requires table { IsPairTable (atoms task.now) rows.old.items }
     requires flags { length flags.old ≡ atoms task.now + 1 }
-    requires told { IsTold (atoms task.now) rows.old.items flags.old course.old.told.items }
+    requires told { IsRowTold (atoms task.now) rows.old.items flags.old course.old.told.items }
     requires news { AreNewsBelow (atoms task.now) course.old.news }
     requires sized { IsSized (atoms task.now) (length task.now.actions) course.old }
     requires stand { StandAllBut numbers.now 0 (IsNews course.old.news) task.now.actions

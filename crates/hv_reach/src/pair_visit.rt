@@ -14,15 +14,15 @@ ghost use Rattle.hv_task.specs.State.{AreBelow};
 ghost use Rattle.hv_task.specs.Strips.{IsOver};
 ghost use Rattle.hv_reach.specs.Reached.{HasPairsOf, LeavesAlone, has_pair};
 ghost use Rattle.hv_reach.specs.Working.Course.{AreNewsBelow, ArePairedBefore, IsGlance, IsKeptBut};
-ghost use Rattle.hv_reach.specs.Working.Course.{IsLack, IsNews, IsTold, StandsSo};
+ghost use Rattle.hv_reach.specs.Working.Course.{IsLack, IsNews, IsRowTold, StandsSo};
 ghost use Rattle.hv_reach.specs.Working.Table.{HasItsPairs, IsJoined, IsPairStep, IsPairTable};
 ghost use Rattle.hv_reach.specs.Working.Table.{KeepsPairs, PairsGrowWithin};
 ghost use Rattle.hv_reach.specs.declared.pair_course.Lack.{Lack};
-ghost use Rattle.hv_reach.specs.declared.pair_course.Standing.{Standing};
-ghost use Rattle.hv_reach.specs.declared.pair_course.Standing.TheVariants as S;
+ghost use Rattle.hv_reach.specs.declared.pair_course.ActionStanding.{ActionStanding};
+ghost use Rattle.hv_reach.specs.declared.pair_course.ActionStanding.TheVariants as S;
 
 use crate::mask::{row_has, spared};
-use crate::pair_course::{Course, Glance, Lack, News, Standing, next_lack};
+use crate::pair_course::{ActionStanding, Course, Glance, Lack, News, next_lack};
 use crate::pair_table::{join_all, mark_all, mark_row};
 use hv_task::{Action, State};
 
@@ -38,29 +38,29 @@ pub(crate) fn visit(
     requires table { IsPairTable atoms rows.old.items }
     requires flags { length flags.old ≡ atoms + 1 }
     requires over { IsOver atoms action.now }
-    requires told { IsTold atoms rows.old.items flags.old course.old.told.items }
+    requires told { IsRowTold atoms rows.old.items flags.old course.old.told.items }
     requires news { AreNewsBelow atoms course.old.news }
     requires number { number < length course.old.standing.items }
     requires mask { length course.old.mask ≡ atoms }
-    requires stands { (s : Standing) → slice_get course.old.standing.items number ≡ Some s
+    requires stands { (s : ActionStanding) → slice_get course.old.standing.items number ≡ Some s
         → StandsSo (IsNews course.old.news) course.old.told.items rows.old.items action.now s }
     ensures step { IsPairStep atoms rows.old.items flags.old rows.new.items flags.new result }
     ensures ready { HasItsPairs atoms rows.new.items flags.new action.now }
     ensures kept { IsKeptBut number course.old course.new }
-    ensures stands { (s : Standing) → slice_get course.new.standing.items number ≡ Some s
+    ensures stands { (s : ActionStanding) → slice_get course.new.standing.items number ≡ Some s
         → StandsSo (λ q. ⊥) course.old.told.items rows.new.items action.now s }
     ensures least { PairsGrowWithin (λ set. KeepsPairs set action.now)
         rows.old.items rows.new.items }
 {
     match course.standing[number as usize] {
-        Standing::New => enter(atoms, rows, flags, course, number, action),
-        Standing::Lacks(lack) => {
+        ActionStanding::New => enter(atoms, rows, flags, course, number, action),
+        ActionStanding::Lacks(lack) => {
             if !rows[lack.first as usize].has(lack.second) {
                 return false;
             }
             enter(atoms, rows, flags, course, number, action)
         }
-        Standing::Ready(glance) => {
+        ActionStanding::Ready(glance) => {
             if course.news.many {
                 return give(atoms, rows, flags, &mut course.mask, action);
             }
@@ -82,7 +82,7 @@ fn enter(
     requires table { IsPairTable atoms rows.old.items }
     requires flags { length flags.old ≡ atoms + 1 }
     requires over { IsOver atoms action.now }
-    requires told { IsTold atoms rows.old.items flags.old course.old.told.items }
+    requires told { IsRowTold atoms rows.old.items flags.old course.old.told.items }
     requires number { number < length course.old.standing.items }
     requires mask { length course.old.mask ≡ atoms }
     requires before { (lack : Lack)
@@ -91,7 +91,7 @@ fn enter(
     ensures step { IsPairStep atoms rows.old.items flags.old rows.new.items flags.new result }
     ensures ready { HasItsPairs atoms rows.new.items flags.new action.now }
     ensures kept { IsKeptBut number course.old course.new }
-    ensures stands { (s : Standing) → slice_get course.new.standing.items number ≡ Some s
+    ensures stands { (s : ActionStanding) → slice_get course.new.standing.items number ≡ Some s
         → StandsSo (λ q. ⊥) course.old.told.items rows.new.items action.now s }
     ensures least { PairsGrowWithin (λ set. KeepsPairs set action.now)
         rows.old.items rows.new.items }
@@ -99,7 +99,7 @@ fn enter(
     let list = action.pre.as_slice();
     match lack_after(atoms, rows, list, course.standing[number as usize]) {
         Some(lack) => {
-            course.standing[number as usize] = Standing::Lacks(lack);
+            course.standing[number as usize] = ActionStanding::Lacks(lack);
             false
         }
         None => {
@@ -111,7 +111,7 @@ fn enter(
 }
 
 // The first pair of these atoms that is missing: those before the place of this one aren't.
-fn lack_after(atoms: u32, rows: &Vec<State>, list: &[u32], standing: Standing) -> Option<Lack>
+fn lack_after(atoms: u32, rows: &Vec<State>, list: &[u32], standing: ActionStanding) -> Option<Lack>
     requires table { IsPairTable atoms rows.now.items }
     requires below { AreBelow atoms list.now }
     requires rises { IsStrictlyIncreasing list.now }
@@ -122,21 +122,21 @@ fn lack_after(atoms: u32, rows: &Vec<State>, list: &[u32], standing: Standing) -
         × (has_pair rows.now.items lack.first lack.second ≡ false)) }
 {
     match standing {
-        Standing::Lacks(lack) => next_lack(atoms, rows, list, lack.row, lack.column),
+        ActionStanding::Lacks(lack) => next_lack(atoms, rows, list, lack.row, lack.column),
         _ => next_lack(atoms, rows, list, 0, 0),
     }
 }
 
 // How an action of this precondition stands that lacks no pair. One without precondition is visited
 // as if it were new: it goes by all atoms.
-fn lacking_none(list: &[u32]) -> Standing
+fn lacking_none(list: &[u32]) -> ActionStanding
     ensures glance { (glance : Glance) → result ≡ S.Ready glance → IsGlance list.now glance }
     ensures none { (lack : Lack) → result ≡ S.Lacks lack → ⊥ }
 {
     if list.len() == 0 {
-        return Standing::New;
+        return ActionStanding::New;
     }
-    Standing::Ready(Glance {
+    ActionStanding::Ready(Glance {
         first: list[0],
         second: list[list.len() - 1],
     })

@@ -13,7 +13,7 @@ ghost use Rattle.hv_replay.specs.Logs.{IsAtomSet, IsLog, LogEntry, StandsInLog};
 ghost use Rattle.hv_replay.specs.Working.Reading.{IsReadingLog, log_of};
 
 use crate::entries::Entries;
-use hv_sets::{ListedState, StateList};
+use hv_sets::{KeptState, StateList};
 use hv_task::Task;
 use std::alloc::AllocError;
 use std::marker::Model;
@@ -89,7 +89,7 @@ impl Log {
     }
 
     /// The state of the entry at this place, by the atoms that it holds, rising.
-    pub fn state(&self, place: usize) -> ListedState<'_>
+    pub fn state(&self, place: usize) -> KeptState<'_>
         requires { place < length self.now.entries }
         ensures state { (entry : LogEntry) → StandsInLog self.now place entry
             → result ≡ entry.state }
@@ -99,7 +99,7 @@ impl Log {
     }
 
     // The same; it is a state of the task.
-    pub(crate) fn held(&self, place: usize) -> ListedState<'_>
+    pub(crate) fn held(&self, place: usize) -> KeptState<'_>
         requires { place < length self.now.entries }
         ensures stands { (entry : LogEntry) → StandsInLog self.now place entry
             → result ≡ entry.state }

@@ -4,7 +4,7 @@ use Rattle.std.proofs.Math.Nat.{min-le_left}
 use Rattle.std.proofs.lemmas.List.{length-take}
 use Rattle.std.specs.List.{All}
 use Rattle.std.specs.Prelude.{slice_range}
-use Rattle.hv_sets.specs.Working.KeptStates.{AreShort, IsShort}
+use Rattle.hv_sets.specs.Working.KeptStates.{AreShort, HasFewAtoms}
 use Rattle.hv_sets.specs.Working.Pieces.{last_end, pieces}
 
 -- one more piece
@@ -15,7 +15,7 @@ short-push from (next ∷ ends) end short last = (short.0, short-push next ends 
 
 -- what is between two near ends is short
 pub short_range : (items : List ℕ) (from end : ℕ) → end - from ≤ 64
-    → IsShort (slice_range items from end)
+    → HasFewAtoms (slice_range items from end)
 short_range items from end near =
     let rest = drop from items in
     let size = length-take (end - from) rest in
@@ -24,7 +24,7 @@ short_range items from end near =
 
 -- the pieces between such ends are short
 pub all_short : (items : List ℕ) (from : ℕ) (ends : List ℕ) → AreShort from ends
-    → All IsShort (pieces items from ends)
+    → All HasFewAtoms (pieces items from ends)
 all_short items from [] short k d place = omega (arith, place)
 all_short items from (end ∷ ends) short zero d place = short_range items from end short.0
 all_short items from (end ∷ ends) short (suc k) d place =

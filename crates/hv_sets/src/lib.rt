@@ -28,7 +28,7 @@ pub use cube::Cube;
 pub use cursor::{Cursor, Step};
 pub use family::Family;
 pub use finding::Finding;
-pub use listed_state::{ListedState, StateBuffer};
+pub use listed_state::{KeptState, StateBuffer};
 pub use literal::Literal;
 pub use operand::{Operand, Which};
 pub use operands::Operands;

@@ -25,50 +25,50 @@ impl StateBuffer {
 
 /// The atoms of a listed state, which rise.
 #[derive(Drop)]
-pub struct ListedState<'a> {
-    kept: Kept<'a>,
+pub struct KeptState<'a> {
+    kept: KeptAtoms<'a>,
 }
 
 /// How they are kept.
 #[derive(Clone, Copy, Drop)]
-pub(crate) enum Kept<'a> {
+pub(crate) enum KeptAtoms<'a> {
     /// Each in four bytes.
     Wide(&'a [u32]),
     /// At most 64 atoms, each in one byte.
     Narrow(&'a [u8]),
 }
 
-impl<'a> Model for ListedState<'a> {
+impl<'a> Model for KeptState<'a> {
     ghost use Rattle.std.specs.Prelude.{ℕ, List};
     ghost use Rattle.std.specs.List.Sorted.{IsStrictlyIncreasing};
-    ghost use Rattle.hv_sets.specs.Working.KeptStates.{IsKept, kept_atoms};
+    ghost use Rattle.hv_sets.specs.Working.KeptStates.{FitsBuffer, kept_atoms};
 
     ghost Value = { List ℕ };
 
     ghost view = { λ s. kept_atoms s.kept };
 
-    ghost invariant = { λ s. IsStrictlyIncreasing (kept_atoms s.kept) × IsKept s.kept };
+    ghost invariant = { λ s. IsStrictlyIncreasing (kept_atoms s.kept) × FitsBuffer s.kept };
 }
 
-impl<'a> ListedState<'a> {
+impl<'a> KeptState<'a> {
     /// The state of these atoms.
-    pub(crate) fn wide(atoms: &'a [u32]) -> ListedState<'a>
+    pub(crate) fn wide(atoms: &'a [u32]) -> KeptState<'a>
         requires { IsStrictlyIncreasing atoms.now }
         ensures { result ≡ atoms.now }
     {
-        ListedState {
-            kept: Kept::Wide(atoms),
+        KeptState {
+            kept: KeptAtoms::Wide(atoms),
         }
     }
 
     /// The state of these atoms.
-    pub(crate) fn narrow(atoms: &'a [u8]) -> ListedState<'a>
+    pub(crate) fn narrow(atoms: &'a [u8]) -> KeptState<'a>
         requires rises { IsStrictlyIncreasing atoms.now }
         requires few { length atoms.now ≤ 64 }
         ensures { result ≡ atoms.now }
     {
-        ListedState {
-            kept: Kept::Narrow(atoms),
+        KeptState {
+            kept: KeptAtoms::Narrow(atoms),
         }
     }
 
@@ -77,8 +77,8 @@ impl<'a> ListedState<'a> {
         ensures { result ≡ length self.now }
     {
         match self.kept {
-            Kept::Wide(atoms) => atoms.len(),
-            Kept::Narrow(atoms) => atoms.len(),
+            KeptAtoms::Wide(atoms) => atoms.len(),
+            KeptAtoms::Narrow(atoms) => atoms.len(),
         }
     }
 
@@ -87,8 +87,8 @@ impl<'a> ListedState<'a> {
         ensures { result ≡ slice_get self.now 0 }
     {
         match self.kept {
-            Kept::Wide(atoms) => first_of(atoms),
-            Kept::Narrow(atoms) => match atoms.first() {
+            KeptAtoms::Wide(atoms) => first_of(atoms),
+            KeptAtoms::Narrow(atoms) => match atoms.first() {
                 Some(atom) => Some(u32::from(*atom)),
                 None => None,
             },
@@ -103,8 +103,8 @@ impl<'a> ListedState<'a> {
         ensures rises { IsStrictlyIncreasing result.now }
     {
         match self.kept {
-            Kept::Wide(atoms) => atoms,
-            Kept::Narrow(atoms) => {
+            KeptAtoms::Wide(atoms) => atoms,
+            KeptAtoms::Narrow(atoms) => {
                 widen(&mut buffer.atoms, atoms);
                 &buffer.atoms[..atoms.len()]
             }

@@ -4,7 +4,7 @@
 ghost use Rattle.std.specs.Prelude.{◌≡◌, ◌<◌, ◌≤◌, ◌-◌, IfOk, IfSome, IsTrue, length};
 ghost use Rattle.std.specs.List.{All};
 ghost use Rattle.hv_sets.specs.Working.Pieces.{EndWithin, gathered};
-ghost use Rattle.hv_sets.specs.Working.KeptStates.{AreShort, IsShort};
+ghost use Rattle.hv_sets.specs.Working.KeptStates.{AreShort, HasFewAtoms};
 
 use crate::flat::{Flat, Parts};
 use crate::listed_state::MOST_ATOMS;
@@ -19,7 +19,7 @@ pub(crate) fn narrowed(alloc: Global, parts: Parts<'_, u32>) -> Result<Option<Fl
     requires { EndWithin parts.items.now 0 parts.ends.now }
     ensures same { IfOk result (λ found. IfSome found (λ flat.
         flat ≡ gathered parts.entry.items.now parts.entry.ends.now)) }
-    ensures short { IfOk result (λ found. IfSome found (λ flat. All IsShort flat.whole)) }
+    ensures short { IfOk result (λ found. IfSome found (λ flat. All HasFewAtoms flat.whole)) }
 {
     if parts.items.len() / MANY_ATOMS < parts.ends.len() || !are_short(parts.ends) {
         return Ok(None);

@@ -1,9 +1,9 @@
 //! Lists of states.
 //!
 //! Listed states are in one list of atoms, with the end of each: a state of nine atoms takes 40
-//! bytes there, where a list of its own takes 32 and a block of 36 to 80. Where a list is shared, and
-//! all its atoms are below 256, they are kept in one byte each: a state of 24 of 48 atoms takes 28
-//! bytes, and not 100. So `get` of a `StateList` and `Log::state` answer a `ListedState`, from which
+//! bytes there, where a list of its own takes 32 and a block of 36 to 80. Where a list is shared, all
+//! its atoms are below 256, and its states hold eight or more as a mean and none more than 64, they
+//! are kept in one byte each: a state of 24 of 48 atoms takes 28 bytes, and not 100. So `get` of a `StateList` and `Log::state` answer a `KeptState`, from which
 //! the atoms are taken as a slice that rises, and not an `AtomList`, which stays the type in which
 //! one state is put together. The readers put atoms last one by one (`StateListBuilder`, as literals
 //! by `ClausesBuilder`), so a line of two million states takes no memory a state but its atoms and
@@ -17,7 +17,7 @@ ghost use Rattle.std.specs.List.Sorted.{IsStrictlyIncreasing};
 ghost use Rattle.hv_task.specs.State.{AreBelow};
 
 use crate::flat::Flat;
-use crate::listed_state::ListedState;
+use crate::listed_state::KeptState;
 use crate::state_pieces::StatePieces;
 use hv_task::AtomList;
 use std::alloc::{AllocError, Global};
@@ -113,7 +113,7 @@ impl StateList {
     }
 
     /// The state at a place from 0.
-    pub fn get(&self, place: usize) -> ListedState<'_>
+    pub fn get(&self, place: usize) -> KeptState<'_>
         requires { place < length self.now }
         ensures state { slice_get self.now place ≡ Some result }
         ensures rises { IsStrictlyIncreasing result }

@@ -7,7 +7,7 @@ ghost use Rattle.std.specs.List.Sorted.{IsStrictlyIncreasing};
 ghost use Rattle.hv_sets.specs.Working.KeptStates.{AreFit, held_states};
 
 use crate::flat::Flat;
-use crate::listed_state::ListedState;
+use crate::listed_state::KeptState;
 use crate::narrow::{narrowed, widened};
 use crate::shared_pieces::SharedPieces;
 use std::alloc::{AllocError, Global};
@@ -94,15 +94,15 @@ impl StatePieces {
     }
 
     /// The state at a place from 0.
-    pub(crate) fn get(&self, place: usize) -> ListedState<'_>
+    pub(crate) fn get(&self, place: usize) -> KeptState<'_>
         requires place { place < length (held_states self.now).whole }
         requires rise { All IsStrictlyIncreasing (held_states self.now).whole }
         requires fit { AreFit self.now }
         ensures { slice_get (held_states self.now).whole place ≡ Some result }
     {
         match self {
-            StatePieces::Wide(pieces) => ListedState::wide(pieces.get(place)),
-            StatePieces::Narrow(shared) => ListedState::narrow(Rc::as_ref(shared).get(place)),
+            StatePieces::Wide(pieces) => KeptState::wide(pieces.get(place)),
+            StatePieces::Narrow(shared) => KeptState::narrow(Rc::as_ref(shared).get(place)),
         }
     }
 }

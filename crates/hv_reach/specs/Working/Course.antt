@@ -9,8 +9,8 @@ use Rattle.hv_reach.specs.declared.pair_course.Course.{Course}
 use Rattle.hv_reach.specs.declared.pair_course.Glance.{Glance}
 use Rattle.hv_reach.specs.declared.pair_course.Lack.{Lack}
 use Rattle.hv_reach.specs.declared.pair_course.News.{News}
-use Rattle.hv_reach.specs.declared.pair_course.Standing.{Standing}
-use Rattle.hv_reach.specs.declared.pair_course.Standing.TheVariants as S
+use Rattle.hv_reach.specs.declared.pair_course.ActionStanding.{ActionStanding}
+use Rattle.hv_reach.specs.declared.pair_course.ActionStanding.TheVariants as S
 use Rattle.hv_reach.specs.Reached.{HasPairsOf, LeavesAlone, has_pair}
 use Rattle.hv_reach.specs.Working.Index.{IsInRest}
 
@@ -54,7 +54,7 @@ pub record IsServed (But : ℕ → Type 0) (told rows : List (List Bool)) (a : A
       → But q ⊎ All (λ p. has_pair rows p q ≡ true) a.add
 
 -- the action stands so, but for news
-abbrev pub StandsSo : (ℕ → Type 0) → List (List Bool) → List (List Bool) → Action → Standing
+abbrev pub StandsSo : (ℕ → Type 0) → List (List Bool) → List (List Bool) → Action → ActionStanding
     → Type 0
 StandsSo But told rows a S.New = ⊤
 StandsSo But told rows a (S.Lacks lack) = IsLack (has_pair rows) a.pre lack
@@ -62,22 +62,22 @@ StandsSo But told rows a (S.Ready glance) = IsGlance a.pre glance × IsServed Bu
 
 -- each action stands as it is said, but for news
 abbrev pub StandAll : (ℕ → Type 0) → List Action → List (List Bool) → List (List Bool)
-    → List Standing → Type 0
+    → List ActionStanding → Type 0
 StandAll But actions told rows standing =
-    (k : ℕ) (a : Action) (s : Standing) → slice_get actions k ≡ Some a
+    (k : ℕ) (a : Action) (s : ActionStanding) → slice_get actions k ≡ Some a
     → slice_get standing k ≡ Some s → StandsSo But told rows a s
 
 -- each action stands as it is said; those that are left in the list but for news
 abbrev pub StandAllBut : List ℕ → ℕ → (ℕ → Type 0) → List Action → List (List Bool)
-    → List (List Bool) → List Standing → Type 0
+    → List (List Bool) → List ActionStanding → Type 0
 StandAllBut numbers from But actions told rows standing =
-    (k : ℕ) (a : Action) (s : Standing) → slice_get actions k ≡ Some a
+    (k : ℕ) (a : Action) (s : ActionStanding) → slice_get actions k ≡ Some a
     → slice_get standing k ≡ Some s
     → StandsSo (λ q. ⊥) told rows a s
     ⊎ (IsInRest numbers from k × StandsSo But told rows a s)
 
 -- what was told are pairs of the table, and a row that has more has its flag raised
-pub record IsTold (n : ℕ) (rows : List (List Bool)) (flags : List Bool)
+pub record IsRowTold (n : ℕ) (rows : List (List Bool)) (flags : List Bool)
     (told : List (List Bool)) : Type 0 where
   pub size : length told ≡ n
   pub each : All (λ row. length row ≡ n) told
@@ -105,7 +105,7 @@ pub record IsSized (n m : ℕ) (course : Course) : Type 0 where
 -- what a search for reached pairs keeps
 pub record IsCourse (n : ℕ) (actions : List Action) (rows : List (List Bool)) (flags : List Bool)
     (course : Course) : Type 0 where
-  pub told : IsTold n rows flags course.told.items
+  pub told : IsRowTold n rows flags course.told.items
   pub stand : StandAll (λ q. ⊥) actions course.told.items rows course.standing.items
   pub sized : IsSized n (length actions) course
 

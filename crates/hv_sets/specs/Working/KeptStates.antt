@@ -4,24 +4,24 @@ use Rattle.std.specs.List.{All}
 use Rattle.std.specs.Rc.{rc_value}
 use Rattle.hv_sets.specs.Gathered.{Gathered}
 use Rattle.hv_sets.specs.Working.SharedPieces.{held_pieces}
-use Rattle.hv_sets.specs.declared.listed_state.Kept.{Kept}
-use Rattle.hv_sets.specs.declared.listed_state.Kept.TheVariants as K
+use Rattle.hv_sets.specs.declared.listed_state.KeptAtoms.{KeptAtoms}
+use Rattle.hv_sets.specs.declared.listed_state.KeptAtoms.TheVariants as K
 use Rattle.hv_sets.specs.declared.state_pieces.StatePieces.{StatePieces}
 use Rattle.hv_sets.specs.declared.state_pieces.StatePieces.TheVariants as P
 
 -- the atoms of a state, each in four bytes or in one
-abbrev pub kept_atoms : Kept → List ℕ
+abbrev pub kept_atoms : KeptAtoms → List ℕ
 kept_atoms (K.Wide atoms) = atoms.now
 kept_atoms (K.Narrow atoms) = atoms.now
 
 -- a state of at most 64 atoms
-abbrev pub IsShort : List ℕ → Type 0
-IsShort atoms = length atoms ≤ 64
+abbrev pub HasFewAtoms : List ℕ → Type 0
+HasFewAtoms atoms = length atoms ≤ 64
 
 -- only short states are kept in one byte an atom
-abbrev pub IsKept : Kept → Type 0
-IsKept (K.Wide atoms) = ⊤
-IsKept (K.Narrow atoms) = IsShort atoms.now
+abbrev pub FitsBuffer : KeptAtoms → Type 0
+FitsBuffer (K.Wide atoms) = ⊤
+FitsBuffer (K.Narrow atoms) = HasFewAtoms atoms.now
 
 -- no piece from this place on, with these ends, has more than 64 items
 abbrev pub AreShort : ℕ → List ℕ → Type 0
@@ -36,4 +36,4 @@ held_states (P.Narrow shared) = rc_value shared
 -- only short states are kept in one byte an atom
 abbrev pub AreFit : StatePieces → Type 0
 AreFit (P.Wide pieces) = ⊤
-AreFit (P.Narrow shared) = All IsShort (rc_value shared).whole
+AreFit (P.Narrow shared) = All HasFewAtoms (rc_value shared).whole

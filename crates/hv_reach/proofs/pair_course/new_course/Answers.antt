@@ -1,7 +1,7 @@
 use Rattle.std.proofs.Common.{◌≡◌, ◌<◌, Some, arith, length, replicate, slice_get, subst, sym}
 use Rattle.std.proofs.lemmas.List.{get_or-replicate, length-replicate}
 use Rattle.hv_reach.proofs.Sets.{slice_get_at}
-use Rattle.hv_reach.specs.declared.pair_course.Standing.TheVariants as S
+use Rattle.hv_reach.specs.declared.pair_course.ActionStanding.TheVariants as S
 use Rattle.hv_reach.proofs.pair_course.new_course.Goals as goal
 
 pub returns-clause-new : goal.returns-clause-new

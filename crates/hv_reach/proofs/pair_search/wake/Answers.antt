@@ -4,7 +4,7 @@ use Rattle.hv_reach.proofs.Served.{stand_end, stand_more, stand_next, told_step}
 use Rattle.hv_reach.proofs.Steps.{pair_step_both}
 use Rattle.hv_reach.proofs.Turns.{ready_more}
 use Rattle.hv_reach.specs.declared.pair_course.News.{News}
-use Rattle.hv_reach.specs.Working.Course.{AreNewsBelow, IsNews, IsTold, StandAllBut}
+use Rattle.hv_reach.specs.Working.Course.{AreNewsBelow, IsNews, IsRowTold, StandAllBut}
 use Rattle.hv_reach.specs.Working.Table.{IsPairStep, HasItsPairs}
 use Rattle.hv_reach.proofs.pair_search.wake.Goals as goal
 
@@ -34,7 +34,7 @@ loop-number-preserved c =
       step = pair_step_both (atoms c.args.task.now) c.args.rows.now.items c.loop-number.rows.items
           c.visit-moved.new.rows.items c.args.flags.now c.loop-number.flags c.visit-moved.new.flags
           c.loop-number.moved c.visit-moved.result i.step step;
-      told = subst (λ t. IsTold (atoms c.args.task.now) c.visit-moved.new.rows.items
+      told = subst (λ t. IsRowTold (atoms c.args.task.now) c.visit-moved.new.rows.items
           c.visit-moved.new.flags t.items) (sym e.kept.told)
           (told_step (atoms c.args.task.now) c.loop-number.rows.items c.visit-moved.new.rows.items
           c.loop-number.flags c.visit-moved.new.flags c.visit-moved.result old.told.items step

@@ -1,6 +1,6 @@
 use Rattle.std.proofs.Common.{ℕ, Bool, length}
 use Rattle.hv_task.specs.Strips.{atoms}
-use Rattle.hv_reach.specs.Working.Course.{AreNewsBelow, IsNews, IsSized, IsTold, StandAllBut}
+use Rattle.hv_reach.specs.Working.Course.{AreNewsBelow, IsNews, IsSized, IsRowTold, StandAllBut}
 use Rattle.hv_reach.specs.Working.Table.{HaveTheirPairsBut, IsEven, IsPairStep, KeepAllPairs}
 use Rattle.hv_reach.specs.Working.Table.{PairsWithin}
 use Rattle.hv_reach.proofs.pair_search.wake.Given as goal
@@ -8,7 +8,7 @@ use Rattle.hv_reach.proofs.pair_search.wake.Given as goal
 abbrev pub invariant-loop-number : goal.invariant-loop-number
 invariant-loop-number l = record {
   step : IsPairStep (atoms l.task) l.fn.rows.items l.fn.flags l.rows.items l.flags l.moved;
-  told : IsTold (atoms l.task) l.rows.items l.flags l.course.told.items;
+  told : IsRowTold (atoms l.task) l.rows.items l.flags l.course.told.items;
   news : AreNewsBelow (atoms l.task) l.course.news;
   sized : IsSized (atoms l.task) (length l.task.actions) l.course;
   stand : StandAllBut l.numbers l.number-index (IsNews l.course.news) l.task.actions

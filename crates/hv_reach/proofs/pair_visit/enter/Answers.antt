@@ -1,6 +1,6 @@
 use Rattle.std.proofs.Common.{◌∙◌, length-set, refl, subst, sym}
 use Rattle.hv_reach.proofs.Served.{given_served, got_here, got_other, lack_ready, stands_entered}
-use Rattle.hv_reach.specs.declared.pair_course.Standing.TheVariants as S
+use Rattle.hv_reach.specs.declared.pair_course.ActionStanding.TheVariants as S
 use Rattle.hv_reach.specs.Reached.{HasPairsOf, has_pair}
 use Rattle.hv_reach.specs.Working.Course.{IsGlance, IsLack, StandsSo}
 use Rattle.hv_reach.proofs.pair_visit.enter.Goals as goal

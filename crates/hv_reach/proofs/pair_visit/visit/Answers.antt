@@ -3,7 +3,7 @@ use Rattle.hv_reach.proofs.Served.{followed_served, given_served, lack_below, la
 use Rattle.hv_reach.proofs.Served.{row_pair, row_size, served_ready, stood, stood_same}
 use Rattle.hv_reach.proofs.Served.{told_step}
 use Rattle.hv_reach.specs.declared.pair_course.Lack.{Lack}
-use Rattle.hv_reach.specs.declared.pair_course.Standing.TheVariants as S
+use Rattle.hv_reach.specs.declared.pair_course.ActionStanding.TheVariants as S
 use Rattle.hv_reach.specs.Reached.{has_pair}
 use Rattle.hv_reach.specs.Working.Course.{ArePairedBefore, IsNews, StandsSo}
 use Rattle.hv_reach.proofs.pair_visit.visit.Goals as goal

@@ -7,7 +7,7 @@ use Rattle.hv_reach.proofs.Served.{stand_new, told_start}
 use Rattle.hv_reach.proofs.Start.{closed_kept, keeps_closed, listed_below, listed_paired}
 use Rattle.hv_reach.proofs.Start.{paired_listed, ready_start}
 use Rattle.hv_reach.specs.Reached.{ArePaired, has_pair}
-use Rattle.hv_reach.specs.declared.pair_course.Standing.TheVariants as S
+use Rattle.hv_reach.specs.declared.pair_course.ActionStanding.TheVariants as S
 use Rattle.hv_reach.specs.Working.Course.{IsCourse, IsSized}
 use Rattle.hv_reach.specs.Working.Table.{HaveTheirPairs, IsPairStep, IsPairTable, PairsWithin}
 use Rattle.hv_reach.proofs.pairs.reached_rows.Goals as goal
