@@ -14,7 +14,7 @@ returns c =
     let a = c.loop-place-test.false in
     let b = c.loop-place.auto.place-end in
     orders_same (length c.args.clauses.now) c.loop-place.codes.items c.sort.new.codes.items
-    c.sort.ensures.has
+    c.sort.ensures.rises c.sort.ensures.has
     (subst (λ n. OrdersUpto n c.loop-place.codes.items) (omega
     (arith, a, b, c.len-place-end.ensures))
     c.loop-place.invariant)
