@@ -11,7 +11,7 @@
 //! marks an atom, where a table of which literal follows from which has a place for each pair of
 //! literals. A state is written only at the end, once there is one.
 
-ghost use Rattle.std.specs.Prelude.{◌≡◌, ◌<◌, ◌≤◌, ℕ, None, Some, false, true, length};
+ghost use Rattle.std.specs.Prelude.{◌≡◌, ◌<◌, ◌≤◌, ℕ, None, Some, false, true, length, min};
 ghost use Rattle.std.specs.Prelude.{IfSome, IsSome, MatchOption, is_some};
 ghost use Rattle.hv_propagation.specs.Chase.{IsFollowed};
 ghost use Rattle.hv_propagation.specs.Completion.{Completes, IsCompleted, IsTried};
@@ -58,6 +58,8 @@ impl Bound {
         requires over { (atoms : ℕ) × C.is_over constraint.now atoms }
         requires place { place < length marks.now.trail }
         ensures end { self ≡ Bounds.End → result ≡ Some Bounds.End }
+        ensures place { (upto : ℕ) → self ≡ Bounds.Place upto
+            → MatchOption result (upto ≤ place) (λ rest. rest ≡ self) }
     {
         match self {
             Bound::End => Some(self),
@@ -93,7 +95,8 @@ pub fn close<C: Constraint>(constraint: &C, marks: &mut Assignment<'_>, from: us
 }
 
 /// The same of the literals before another place of the trail. The answer is the place that was
-/// come to, or None if no state that agrees with what was known meets the condition.
+/// come to, no earlier than that one or the end of the trail; or None if no state that agrees with
+/// what was known meets the condition.
 pub fn close_upto<C: Constraint>(
     constraint: &C,
     marks: &mut Assignment<'_>,
@@ -106,6 +109,7 @@ pub fn close_upto<C: Constraint>(
     ensures followed { IsFollowed (C.admits constraint.now) marks.old marks.new (is_some result) }
     ensures left { IfSome result (λ place. (place ≤ length marks.new.trail)
         × C.left constraint.now marks.new place) }
+    ensures reached { IfSome result (λ place. min upto (length marks.new.trail) ≤ place) }
 {
     follow(constraint, marks, from, Bound::Place(upto))
 }
@@ -126,6 +130,8 @@ fn follow<C: Constraint>(
         × C.left constraint.now marks.new place) }
     ensures end { bound ≡ Bounds.End
         → IfSome result (λ place. place ≡ length marks.new.trail) }
+    ensures reached { (upto : ℕ) → bound ≡ Bounds.Place upto
+        → IfSome result (λ place. min upto (length marks.new.trail) ≤ place) }
 {
     let mut place = from;
     let mut rest = bound;

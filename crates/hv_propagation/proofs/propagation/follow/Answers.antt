@@ -1,4 +1,6 @@
-use Rattle.std.proofs.Common.{◌≡◌, ◌∙◌, Some, refl, sym, arith}
+use Rattle.std.proofs.Common.{◌≡◌, ◌≤◌, ◌∙◌, Option, Some, refl, subst, sym, arith}
+use Rattle.std.specs.Prelude.{MatchOption}
+use Rattle.hv_propagation.specs.declared.propagation.Bound.{Bound}
 use Rattle.hv_propagation.specs.declared.propagation.Bound.TheVariants as Bounds
 use Rattle.hv_propagation.proofs.Chasing.{followed_then, longer}
 use Rattle.hv_propagation.proofs.propagation.follow.Goals as goal
@@ -24,4 +26,9 @@ loop-place-preserved g c =
           let same : Some c.in-Some.next ≡ Some Bounds.End = sym c.in-Some.is
           ∙ c.past.ensures.end (c.loop-place.invariant.end is) in
           cc;
+      place = λ upto is.
+          let before = c.loop-place.invariant.place upto is in
+          subst (λ (past : Option Bound). MatchOption past (upto ≤ c.loop-place.place)
+          (λ rest. rest ≡ c.loop-place.rest)) c.in-Some.is (c.past.ensures.place upto before)
+          ∙ before;
     }
