@@ -1,7 +1,7 @@
 //! Values of literals, and literals that are made true or false.
 
 ghost use Rattle.std.specs.Prelude.{◌≡◌, ◌<◌, Some, false, true, length};
-ghost use Rattle.std.specs.List.{Contains};
+ghost use Rattle.std.specs.List.{All, Contains};
 ghost use Rattle.hv_sets.specs.declared.literal.Literal.{Literal};
 ghost use Rattle.hv_sets.specs.Cubes.{SpeakBelow};
 ghost use Rattle.hv_sets.specs.Truth.{in_clause, in_cube, in_literal};
@@ -46,8 +46,10 @@ pub(crate) fn is_found_true(
 
 /// Whether a literal of the clause is known to be true.
 pub fn has_true(clause: &[Literal], effect: &ActionEffect<'_>, marks: &Assignment<'_>) -> bool
-    ensures { result ≡ true → (l : Literal) × Contains clause.now l ×
+    ensures yes { result ≡ true → (l : Literal) × Contains clause.now l ×
         (value_of effect.now (marks_of marks.now) l ≡ Some true) }
+    ensures no { result ≡ false
+        → All (λ l. value_of effect.now (marks_of marks.now) l ≡ Some true → ⊥) clause.now }
 {
     for literal in clause {
         if value(effect, marks, *literal) == Some(true) {

@@ -23,7 +23,7 @@ returns-then-has_true g c = λ _ state size agrees inside broken.
     c.get-clause.result.now c.get-clause.ensures)) refl
     c.requires c.args.operand.after c.seen-seen.result (marks_of c.args.marks.now) _ _ state
     c.seen-seen.ensures c.clauses.ensures.below c.set.ensures.atoms size
-    (c.has_true.ensures c.if-has_true.true) agrees broken
+    (c.has_true.ensures.yes c.if-has_true.true) agrees broken
 
 pub returns-then-has_true-2 : goal.returns-then-has_true-2
 returns-then-has_true-2 g c = λ _ state size agrees inside broken.
@@ -36,7 +36,7 @@ returns-then-has_true-2 g c = λ _ state size agrees inside broken.
     c.get-clause.result.now c.get-clause.ensures)) refl
     c.requires c.args.operand.after c.seen-seen.result (marks_of c.args.marks.now) _ _ state
     c.seen-seen.ensures c.clauses.ensures.below c.set.ensures.atoms size
-    (c.has_true-then-clause-gt-SHORT.ensures c.if-has_true-2.true) agrees broken
+    (c.has_true-then-clause-gt-SHORT.ensures.yes c.if-has_true-2.true) agrees broken
 
 pub returns : goal.returns
 returns g c = λ e state size agrees inside broken.

@@ -17,7 +17,7 @@ returns-then-has_true-clause-true_in c = λ _ state size agrees.
     true_where_known c.args.clause.now (marks_of k) state (size ∙ sym (length-marks k)) agrees
     (subst (λ n. SpeakBelow n c.args.clause.now) (sym (length-marks k)) c.requires)
     (subst (λ e. (l : Literal) × Contains c.args.clause.now l
-    × (value_of e (marks_of k) l ≡ Some true)) c.none-none.ensures (c.if-has_true.ensures refl))
+    × (value_of e (marks_of k) l ≡ Some true)) c.none-none.ensures (c.if-has_true.ensures.yes refl))
 
 pub returns-then-deny-clause-broken : goal.returns-then-deny-clause-broken
 returns-then-deny-clause-broken c = λ _. (
