@@ -280,10 +280,10 @@ pub run_step : (entries : List ℕ) (from index entry : ℕ) (roots : List ℕ)
     → entry / 2 < length roots
     → IsRun entries from roots old places queue (record { index = index; len = len; holds = true })
     → IsForcedEntry entry roots (on_trail roots queue len) more_places more_queue forced
-    → IsRun entries from roots old more_places more_queue
-    (record { index = index + 1; len = forced.len; holds = forced.holds })
+    → (holds : Bool) → forced.holds ≡ holds → IsRun entries from roots old more_places more_queue
+    (record { index = index + 1; len = forced.len; holds = holds })
 run_step entries from index entry roots old places queue more_places more_queue len forced few less
-    read within run one =
+    read within run one holds is =
     let same : entry ≡ entry_or_none entries index = read
     ∙ get_or_default entries index 0 no_literal less in
     let after = run.after in
@@ -292,7 +292,9 @@ run_step entries from index entry roots old places queue more_places more_queue 
     let mid = marks_of (on_trail roots queue len) in
     let new = marks_of (on_trail roots more_queue forced.len) in
     let Known : ℕ → Type 0 = λ k. from ≤ k → IsKnownEntry new (entry_or_none entries k) in
-    record {
+    subst (λ (answer : Bool). IsRun entries from roots old more_places more_queue
+    (record { index = index + 1; len = forced.len; holds = answer })) is
+    (record {
       after = omega arith;
       joined = one.joined;
       followed = followed_then (AreTrueBehind entries from)
@@ -300,15 +302,15 @@ run_step entries from index entry roots old places queue more_places more_queue 
           (on_trail roots more_queue forced.len) forced.holds
           (λ state size all. subst (λ n. in_literal (literal_of n) state ≡ true) (sym same)
           (all index after less some)) run.followed one.followed;
-      known = λ is k past before. below_more Known index
+      known = λ yes k past before. below_more Known index
           (λ j earlier behind. let known_j = run.known refl j behind earlier in
           record { some = known_j.some; known = one.followed.grows _ _ known_j.known })
           (λ behind. subst (λ n. IsKnownEntry new n) same
           (record {
             some = λ none. some (sym same ∙ none);
-            known = one.known is;
+            known = one.known yes;
           })) k before past;
-    }
+    })
 
 -- beside a literal that is known to be true a clause is settled
 pub entry_settled : (e m : List ℕ) (clauses : List (List Literal)) (standing : Standing) (k : ℕ)

@@ -1,4 +1,4 @@
-use Rattle.std.proofs.Common.{◌∙◌, ◌<◌, ◌/◌, arith, get_or, length, refl, sym}
+use Rattle.std.proofs.Common.{◌≡◌, ◌∙◌, ◌<◌, ◌/◌, ℕ, arith, get_or, length, refl, sym}
 use Rattle.hv_propagation.specs.Trail.{marked}
 use Rattle.hv_propagation.proofs.FoundRuns.{force_room, forced_before, forced_found, forced_new}
 use Rattle.hv_propagation.proofs.FoundRuns.{forced_out, none_other, none_past}
@@ -55,8 +55,10 @@ returns-in-Some c =
     ])
     c.in-Some.value (sym c.in-Some.is ∙ c.read.ensures)
 
-pub overflow_cast-places : goal.overflow_cast-places
-overflow_cast-places c =
+-- where the roots say nothing either, nothing on the trail is of its atom
+unseen : (c : goal.In-None) → (k : ℕ) → k < c.args.len
+    → get_or c.args.queue.now k 0 / 2 ≡ c.args.entry / 2 → ⊥
+unseen c =
     let entry = c.args.entry in
     let base = marked c.args.atoms c.args.roots.now in
     let wide = length-marked c.args.atoms c.args.roots.now in
@@ -67,15 +69,27 @@ overflow_cast-places c =
     let len = c.args.len in
     let place = get_or places (entry / 2) 0 in
     let joined = c.requires.joined in
-    let few = c.requires.few in
-    let room = force_room entry base places queue len place within joined refl
-    (elim c.if-place-len.branch [
+    elim c.if-place-len.branch [
       | then-place-len+else-found-entry+else-found-atom w ↦ none_other entry base places queue len
           place within joined refl _ w.if-place-len.true refl w.if-found-atom.false
       | else-place-len w ↦ none_past entry base places queue len place within joined refl
           w.if-place-len.false
-    ])
-    (sym c.in-None.is ∙ c.read.ensures) in
+    ]
+
+-- so there is room for it
+has_room : (c : goal.In-None) → c.args.len < length (marked c.args.atoms c.args.roots.now)
+has_room c =
+    let wide = length-marked c.args.atoms c.args.roots.now in
+    let low = c.requires.atom in
+    force_room c.args.entry (marked c.args.atoms c.args.roots.now) c.args.places.now
+    c.args.queue.now c.args.len (get_or c.args.places.now (c.args.entry / 2) 0) (omega arith)
+    c.requires.joined refl (unseen c) (sym c.in-None.is ∙ c.read.ensures)
+
+pub overflow_cast-places : goal.overflow_cast-places
+overflow_cast-places c =
+    let wide = length-marked c.args.atoms c.args.roots.now in
+    let few = c.requires.few in
+    let room = has_room c in
     omega arith
 
 pub bounds-places-atom-in-None : goal.bounds-places-atom-in-None
@@ -87,44 +101,14 @@ bounds-places-atom-in-None c =
 
 pub bounds-queue-len : goal.bounds-queue-len
 bounds-queue-len c =
-    let entry = c.args.entry in
-    let base = marked c.args.atoms c.args.roots.now in
-    let wide = length-marked c.args.atoms c.args.roots.now in
-    let low = c.requires.atom in
-    let within : entry / 2 < length base = omega arith in
-    let places = c.args.places.now in
-    let queue = c.args.queue.now in
-    let len = c.args.len in
-    let place = get_or places (entry / 2) 0 in
-    let joined = c.requires.joined in
-    let rows = joined.queue_room in
-    let room = force_room entry base places queue len place within joined refl
-    (elim c.if-place-len.branch [
-      | then-place-len+else-found-entry+else-found-atom w ↦ none_other entry base places queue len
-          place within joined refl _ w.if-place-len.true refl w.if-found-atom.false
-      | else-place-len w ↦ none_past entry base places queue len place within joined refl
-          w.if-place-len.false
-    ])
-    (sym c.in-None.is ∙ c.read.ensures) in
+    let rows = c.requires.joined.queue_room in
+    let room = has_room c in
     omega arith
 
 pub returns-in-None : goal.returns-in-None
 returns-in-None c =
-    let entry = c.args.entry in
-    let base = marked c.args.atoms c.args.roots.now in
     let wide = length-marked c.args.atoms c.args.roots.now in
     let low = c.requires.atom in
-    let within : entry / 2 < length base = omega arith in
-    let places = c.args.places.now in
-    let queue = c.args.queue.now in
-    let len = c.args.len in
-    let place = get_or places (entry / 2) 0 in
-    let joined = c.requires.joined in
-    forced_new entry base places queue len place within joined refl
-    (elim c.if-place-len.branch [
-      | then-place-len+else-found-entry+else-found-atom w ↦ none_other entry base places queue len
-          place within joined refl _ w.if-place-len.true refl w.if-found-atom.false
-      | else-place-len w ↦ none_past entry base places queue len place within joined refl
-          w.if-place-len.false
-    ])
-    (sym c.in-None.is ∙ c.read.ensures)
+    forced_new c.args.entry (marked c.args.atoms c.args.roots.now) c.args.places.now
+    c.args.queue.now c.args.len (get_or c.args.places.now (c.args.entry / 2) 0) (omega arith)
+    c.requires.joined refl (unseen c) (sym c.in-None.is ∙ c.read.ensures)

@@ -1,7 +1,6 @@
-use Rattle.std.proofs.Common.{◌+◌, arith, refl, subst}
+use Rattle.std.proofs.Common.{arith, refl}
 use Rattle.std.proofs.lemmas.Bool.{not-false, not-true}
 use Rattle.hv_propagation.specs.Trail.{marked}
-use Rattle.hv_propagation.specs.Working.FoundRun.{IsRun, on_trail}
 use Rattle.hv_propagation.proofs.FoundRuns.{run_begun, run_step}
 use Rattle.hv_propagation.proofs.Trailed.{length-marked}
 use Rattle.hv_propagation.proofs.found_run.force_each.Goals as goal
@@ -21,15 +20,10 @@ returns-then-not-forced c =
     let wide = length-marked c.args.atoms c.args.roots.now in
     let few = c.requires.few in
     let low = c.if-entry-atoms.false in
-    subst (λ holds. IsRun c.args.entries.now c.args.from base
-    (on_trail base c.args.queue.now c.args.len) c.force-forced.new.places
-    c.force-forced.new.queue
-    (record { index = c.loop-index.index + 1; len = c.force-forced.result.len; holds = holds }))
-    (not-true _ c.if-not-forced.true)
-    (run_step c.args.entries.now c.args.from c.loop-index.index _ base _
+    run_step c.args.entries.now c.args.from c.loop-index.index _ base _
     c.loop-index.places c.loop-index.queue _ _ c.loop-index.end c.force-forced.result
     (omega arith) c.loop-index-test.true refl (omega arith) c.loop-index.invariant
-    c.force-forced.ensures)
+    c.force-forced.ensures _ (not-true _ c.if-not-forced.true)
 
 pub loop-index-preserved : goal.loop-index-preserved
 loop-index-preserved c =
@@ -37,12 +31,7 @@ loop-index-preserved c =
     let wide = length-marked c.args.atoms c.args.roots.now in
     let few = c.requires.few in
     let low = c.if-entry-atoms.false in
-    subst (λ holds. IsRun c.args.entries.now c.args.from base
-    (on_trail base c.args.queue.now c.args.len) c.force-forced.new.places
-    c.force-forced.new.queue
-    (record { index = c.loop-index.index + 1; len = c.force-forced.result.len; holds = holds }))
-    (not-false _ c.if-not-forced.false)
-    (run_step c.args.entries.now c.args.from c.loop-index.index _ base _
+    run_step c.args.entries.now c.args.from c.loop-index.index _ base _
     c.loop-index.places c.loop-index.queue _ _ c.loop-index.end c.force-forced.result
     (omega arith) c.loop-index-test.true refl (omega arith) c.loop-index.invariant
-    c.force-forced.ensures)
+    c.force-forced.ensures _ (not-false _ c.if-not-forced.false)
