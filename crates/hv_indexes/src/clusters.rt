@@ -265,7 +265,8 @@ fn is_true_at(atom: u32, sign: bool, state: &State) -> bool
     atom < state.atoms() && state.has(atom) == sign
 }
 
-/// Whether the clauses at these places are true.
+/// Whether the clauses at these places are true. The answer false says that some clause is false,
+/// which may stand elsewhere.
 pub fn are_true(clauses: &Clauses, places: &[u32], state: &State) -> bool
     requires clauses { All (SpeakBelow (length state.now)) clauses.now }
     requires places { (k : ℕ) → k < length places.now

@@ -43,8 +43,9 @@ impl Mates {
         }
     }
 
-    /// Those of these clauses. More than 4,294,967,295 are taken as out of memory; a line has fewer
-    /// than 8,388,608.
+    /// Those of these clauses. How many atoms are told decides alone where flags for each of them
+    /// pay, and changes no answer. More than 4,294,967,295 clauses are taken as out of memory; a
+    /// line has fewer than 8,388,608.
     pub fn of(
         alloc: Global,
         atoms: u32,
