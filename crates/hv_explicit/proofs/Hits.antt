@@ -7,19 +7,19 @@ use Rattle.std.proofs.lemmas.List.Sums.{list_all-from_AllPass}
 use Rattle.std.specs.List.{All, Contains, list_all}
 use Rattle.hv_task.specs.Strips.{atoms}
 use Rattle.hv_sets.specs.Names.{AsksAbout}
-use Rattle.hv_sets.specs.Query.{IsNamed, IsReady}
+use Rattle.hv_sets.specs.Query.{IsNamed, IsReady, action_of}
 use Rattle.hv_sets.specs.declared.operand.Operand.{Operand}
 use Rattle.hv_sets.specs.declared.query.Query.{Query}
 use Rattle.hv_sets.specs.declared.operand.Which.{Which}
-use Rattle.hv_explicit.specs.Working.Search.{HasJust, IsHit, ListedSearch, in_either, in_named}
-use Rattle.hv_explicit.specs.Working.Search.{is_fit, is_in_none}
+use Rattle.hv_explicit.specs.Working.Search.{HasJust, IsHit, ListedSearch, clashes_at, in_either}
+use Rattle.hv_explicit.specs.Working.Search.{in_named, is_fit, is_in_none}
 use Rattle.std.proofs.lemmas.Bool.{and_right}
 use Rattle.hv_task.specs.declared.action.Action.{Action}
 use Rattle.hv_task.specs.Atoms.{is_after}
-use Rattle.hv_task.specs.State.{AreBelow, names_atom, state_of}
+use Rattle.hv_task.specs.State.{AreBelow, applicable, names_atom, state_of, successor}
 use Rattle.hv_explicit.specs.Working.Codes.{IsSame}
 use Rattle.hv_explicit.proofs.Anchored.{All-second}
-use Rattle.hv_explicit.proofs.Clashes.{known_before}
+use Rattle.hv_explicit.proofs.Clashes.{clash_acting, known_before}
 
 -- the negative operands name constants and sets of the store
 pub negative_named : (count : ℕ) (query : Query) (operands : List Operand) → IsReady count query
@@ -135,3 +135,17 @@ stays_none s anchor action held below there asks left b a just_b just_a =
     ) in
     sym (and_right (list_all (in_either s b a) s.query.positive) (is_in_none s b a)
     (some_hit s s.query.negative b a true hit))
+
+-- where what the action makes of a state is hit, the state is no counterexample
+pub hit_settles : (s : ListedSearch) (action : Action) (held : List ℕ)
+    → action_of s.task s.query.action ≡ Some action
+    → IsHit s s.query.negative true (successor action (state_of (atoms s.task) held))
+    → clashes_at s held ≡ false
+hit_settles s action held acts hit =
+    let state = state_of (atoms s.task) held in
+    let after = successor action state in
+    let none = some_hit s s.query.negative state after true hit in
+    sym (clash_acting s state action acts)
+    ∙ and_right (applicable action state) (is_fit s state after)
+    (and_right (list_all (in_either s state after) s.query.positive) (is_in_none s state after)
+    none)

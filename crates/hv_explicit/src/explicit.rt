@@ -175,6 +175,17 @@ impl Explicit {
         is_in(&self.index, &self.states, place, held, self.atoms)
     }
 
+    /// Whether the state at this place has just these atoms, and so they are those of a listed
+    /// state.
+    pub(crate) fn lists_at<A: Sought>(&self, place: usize, held: &A) -> bool
+        requires { IsBelow self.now.atoms (A.has held.now) }
+        ensures { IsTrue result → (state : List Bool) → length state ≡ self.now.atoms
+            → IsSetOf (A.has held.now) state → in_listing self.now state ≡ true }
+    {
+        let states = self.states();
+        place < states.len() && self.has_state_at(place, held)
+    }
+
     /// Whether the state at this place is what the action makes of the state of these atoms.
     /// The buffer may give the space for the state.
     pub(crate) fn has_result_at(
@@ -184,7 +195,8 @@ impl Explicit {
         action: &Action,
         buffer: &mut StateBuffer,
     ) -> bool
-        requires { IsBelow self.now.atoms (is_after action.now held.now) }
+        requires below { IsBelow self.now.atoms (is_after action.now held.now) }
+        requires rises { IsStrictlyIncreasing held.now }
         ensures { IsTrue result → (state : List Bool) → length state ≡ self.now.atoms
             → IsSetOf (is_after action.now held.now) state → in_listing self.now state ≡ true }
     {

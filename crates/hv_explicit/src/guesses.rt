@@ -3,11 +3,14 @@
 //! A look-up of a result waits for memory once for its slot, once for its code and twice for its
 //! atoms, and what comes after waits for the answer. So where the search goes through many states,
 //! guesses are made for some dozens of them at once, each step for all of them: by the code that
-//! the result has if the action deletes just what its precondition names and adds what isn't held.
-//! A guess that is confirmed on the atoms settles the state, and its result need not be looked up;
-//! any other one says nothing. Nothing is proved of guesses.
+//! the result has if the action deletes just what its precondition names and adds what isn't held,
+//! or, where codes are words, by the word of the result. A guess that is confirmed settles the
+//! state, and its result need not be looked up; any other one says nothing. There are none where
+//! the result is likely to be the state itself, which is told without a look at atoms, and none
+//! once most of them were refused. Nothing is proved of guesses.
 
-use crate::codes::likely_shift;
+use crate::action_bits::ActionBits;
+use crate::codes::{BITS, likely_shift};
 use crate::coding::Coding;
 use crate::explicit::Explicit;
 use crate::explicits::Explicits;
@@ -17,6 +20,9 @@ use hv_task::Action;
 
 // So many guesses are made at once.
 const BLOCK: usize = 32;
+
+// So many guesses may be refused, however few are asked for.
+const REFUSED: usize = 8;
 
 // No guess.
 const NONE: ListedAt = ListedAt {
@@ -33,14 +39,21 @@ enum Index<'a> {
     All(&'a StateOwners),
 }
 
-// The sets, where results are looked for in them, how much more the code of a result is than that
-// of the state, and an atom that isn't less than the first one of a result.
+// How the code of a result is likely to follow from that of the state.
+#[derive(Clone, Copy)]
+enum LikelyCode {
+    // It is so much more, and the first atom of the result isn't greater than this one.
+    More(u64, u32),
+    // It is a word, of which these bits stay and those are put.
+    Word { kept: u64, put: u64 },
+}
+
+// The sets, where results are looked for in them, and by which codes.
 #[derive(Clone, Copy)]
 struct Lead<'a> {
     sets: &'a Explicits,
     index: Index<'a>,
-    shift: u64,
-    first: u32,
+    code: LikelyCode,
 }
 
 /// Guesses for the states of a set at some places, one after another.
@@ -50,6 +63,7 @@ pub(crate) struct Guesses<'a> {
     places: &'a [u32],
     lead: Option<Lead<'a>>,
     passed: usize,
+    refused: usize,
     made: [ListedAt; BLOCK],
 }
 
@@ -61,6 +75,7 @@ impl<'a> Guesses<'a> {
             places,
             lead: None,
             passed: 0,
+            refused: 0,
             made: [NONE; BLOCK],
         }
     }
@@ -71,12 +86,13 @@ impl<'a> Guesses<'a> {
         owners: Option<&'a StateOwners>,
         operands: &[Operand],
         action: &Action,
+        bits: Option<&ActionBits<'_>>,
         set: &'a Explicit,
         places: &'a [u32],
     ) -> Guesses<'a> {
         let mut guesses = Guesses::none(set, places);
-        if places.len() >= BLOCK && set.atoms() > 64 {
-            guesses.lead = lead_of(sets, owners, operands, action, set.key());
+        if places.len() >= BLOCK {
+            guesses.lead = lead_of(sets, owners, operands, action, bits, set.key());
         }
         guesses
     }
@@ -94,13 +110,25 @@ impl<'a> Guesses<'a> {
         self.made[at]
     }
 
+    /// Tells that a guess was refused. Where these outweigh the others, there will be none from now
+    /// on.
+    pub(crate) fn refuse(&mut self, guess: ListedAt) {
+        if guess.place == NONE.place {
+            return;
+        }
+        self.refused = self.refused.wrapping_add(1);
+        if self.refused > REFUSED && self.refused > self.passed / 2 {
+            self.lead = None;
+        }
+    }
+
     // Makes the guesses for the next places. Where few are found, there will be none from now on.
     fn make(&mut self, lead: Lead<'a>) {
         let mut codes = [0; BLOCK];
         let mut ends = [0; BLOCK];
         for at in 0..BLOCK {
             if let Some(place) = self.places.get(self.passed.wrapping_add(at)) {
-                codes[at] = self.set.code_at(*place as usize).wrapping_add(lead.shift);
+                codes[at] = lead.code.after(self.set.code_at(*place as usize));
                 ends[at] = lead.start(codes[at]);
             }
         }
@@ -112,7 +140,8 @@ impl<'a> Guesses<'a> {
                 self.made[at] = NONE;
             }
         }
-        if many_in(&self.made) < BLOCK / 2 {
+        let most = self.places.len().saturating_sub(self.passed).min(BLOCK);
+        if many_in(&self.made) < most / 2 {
             self.lead = None;
         }
     }
@@ -127,6 +156,16 @@ fn many_in(made: &[ListedAt]) -> usize {
         }
     }
     many
+}
+
+impl LikelyCode {
+    // The code of a result, by that of the state.
+    fn after(self, code: u64) -> u64 {
+        match self {
+            LikelyCode::More(more, _) => code.wrapping_add(more),
+            LikelyCode::Word { kept, put } => (code & kept) | put,
+        }
+    }
 }
 
 impl Lead<'_> {
@@ -152,6 +191,9 @@ impl Lead<'_> {
 
     // Whether the state begins as a result does.
     fn is_likely(&self, guess: ListedAt) -> bool {
+        let LikelyCode::More(_, first) = self.code else {
+            return true;
+        };
         if guess.set as usize >= self.sets.len() {
             return false;
         }
@@ -160,34 +202,49 @@ impl Lead<'_> {
             return false;
         }
         match set.atoms_at(guess.place as usize).first() {
-            Some(atom) => atom <= self.first,
+            Some(atom) => atom <= first,
             None => false,
         }
     }
 }
 
-// What leads to guesses, where the states have codes by this key.
+// What leads to guesses, where the states have codes by this key, and words are theirs alone.
 fn lead_of<'a>(
     sets: &'a Explicits,
     owners: Option<&'a StateOwners>,
     operands: &[Operand],
     action: &Action,
+    bits: Option<&ActionBits<'_>>,
     key: u64,
 ) -> Option<Lead<'a>> {
+    let code = match bits {
+        Some(bits) if key == BITS => LikelyCode::Word {
+            kept: !bits.del,
+            put: bits.add,
+        },
+        Some(_) => {
+            return None;
+        }
+        None => likely_code(action, key)?,
+    };
     let index = match owners {
         Some(owners) => all_of(owners, key)?,
         None => greatest_of(sets, operands, key)?,
     };
+    Some(Lead { sets, index, code })
+}
+
+// How the codes of results follow by sums, unless the results are likely to be the states.
+fn likely_code(action: &Action, key: u64) -> Option<LikelyCode> {
+    let more = likely_shift(key, action);
+    if more == 0 {
+        return None;
+    }
     let first = match action.add.as_slice().first() {
         Some(atom) => *atom,
         None => u32::MAX,
     };
-    Some(Lead {
-        sets,
-        index,
-        shift: likely_shift(key, action),
-        first,
-    })
+    Some(LikelyCode::More(more, first))
 }
 
 // The states of all sets, where they have codes by this key.

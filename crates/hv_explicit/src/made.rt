@@ -1,5 +1,6 @@
 //! Whether a list is found to be what an action makes of a state: one walk over both, which need
-//! not find it. It is quicker than the exact one of `results`, where the lists are short.
+//! not find it. It is quicker than the exact one of `results`, where the lists are short; long ones
+//! are left to that one.
 
 ghost use Rattle.std.specs.Prelude.{◌≡◌, ◌<◌, ◌≤◌, ◌⊎◌, ℕ, IsTrue, false, length, slice_index};
 ghost use Rattle.std.specs.List.{All, Contains};
@@ -7,14 +8,21 @@ ghost use Rattle.std.specs.List.Sorted.{IsStrictlyIncreasing};
 ghost use Rattle.hv_task.specs.Atoms.{is_after};
 ghost use Rattle.hv_explicit.specs.Working.Codes.{IsSame};
 
-use crate::results::{has_no_other, named};
+use crate::results::{has_no_other, is_result, named};
 use hv_task::Action;
+
+// A list of more atoms is long.
+const SHORT: usize = 64;
 
 /// Whether the list is found to be the result of the action in the state of these atoms.
 pub(crate) fn is_found_result(list: &[u32], held: &[u32], action: &Action) -> bool
-    requires { IsStrictlyIncreasing list.now }
+    requires list { IsStrictlyIncreasing list.now }
+    requires held { IsStrictlyIncreasing held.now }
     ensures { IsTrue result → IsSame (is_after action.now held.now) list.now }
 {
+    if list.len() > SHORT {
+        return is_result(list, held, action);
+    }
     let add = action.add.as_slice();
     let del = action.del.as_slice();
     if !is_changed(list, held, add, del) {

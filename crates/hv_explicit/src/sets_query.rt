@@ -48,7 +48,7 @@ use crate::results::is_left;
 use crate::sought::{ActionResult, Coded, SomeState, Sought};
 use crate::state_owners::{ListedAt, StateOwners};
 use crate::state_word::StateWord;
-use hv_sets::{Finding, KeptState, Operand, Query, StateBuffer, Which};
+use hv_sets::{Finding, Operand, Query, StateBuffer, Which};
 use hv_task::{Action, State, Task};
 use std::alloc::{AllocError, Global};
 use std::marker::Model;
@@ -338,8 +338,7 @@ impl SetsQuery<'_> {
         let mut spaces = Spaces::new();
         let mut guesses = self.guesses(set, places);
         for place in places {
-            let guess = guesses.next();
-            if self.is_clash_at(anchor, set, *place as usize, guess, &mut spaces) {
+            if self.is_clash_at(anchor, set, *place as usize, &mut guesses, &mut spaces) {
                 state.hold(set.atoms_at(*place as usize).slice(&mut spaces.held));
                 return Finding::Clash;
             }
@@ -354,7 +353,7 @@ impl SetsQuery<'_> {
         anchor: Which,
         set: &Explicit,
         place: usize,
-        guess: ListedAt,
+        guesses: &mut Guesses<'_>,
         spaces: &mut Spaces,
     ) -> bool
         requires atoms { set.now.atoms ≡ atoms self.now.task }
@@ -363,10 +362,13 @@ impl SetsQuery<'_> {
             (state_of (atoms self.now.task) (slice_index_or set.now.states place [])) ≡ true }
         ensures { result ≡ clashes_at self.now (slice_index_or set.now.states place []) }
     {
-        if self.is_settled(guess, set.atoms_at(place), spaces) {
+        let guess = guesses.next();
+        let held = set.at(place, &mut spaces.held);
+        if self.is_settled(guess, held, &mut spaces.listed) {
             return false;
         }
-        self.some_clashes(anchor, set.at(place, &mut spaces.held))
+        guesses.refuse(guess);
+        self.some_clashes(anchor, held)
     }
 
     // Guesses where the results of the action in the states at these places are listed.
@@ -378,22 +380,66 @@ impl SetsQuery<'_> {
                 self.owners,
                 self.negative(),
                 action,
+                self.bits(),
                 set,
                 places,
             ),
         }
     }
 
-    // Whether the state of these atoms is no counterexample, because the state of the guess is what
-    // the action makes of it.
-    fn is_settled(&self, guess: ListedAt, held: KeptState<'_>, spaces: &mut Spaces) -> bool
-        requires { AreBelow (atoms self.now.task) held }
-        ensures { IsTrue result → clashes_at self.now held.entry ≡ false }
+    // Whether the state is no counterexample, because the state of the guess is what the action
+    // makes of it.
+    fn is_settled(&self, guess: ListedAt, held: SomeState<'_>, buffer: &mut StateBuffer) -> bool
+        requires { AreBelow (atoms self.now.task) (state_atoms held) }
+        ensures { IsTrue result → clashes_at self.now (state_atoms held.entry) ≡ false }
+    {
+        if guess.place == u32::MAX {
+            return false;
+        }
+        match held {
+            SomeState::Listed(held) => self.is_list_settled(guess, held.atoms, buffer),
+            SomeState::Word(held) => self.is_word_settled(guess, held),
+        }
+    }
+
+    // The same of a list.
+    fn is_list_settled(&self, guess: ListedAt, held: &[u32], buffer: &mut StateBuffer) -> bool
+        requires below { AreBelow (atoms self.now.task) held.now }
+        requires rises { IsStrictlyIncreasing held.now }
+        ensures { IsTrue result → clashes_at self.now held.now ≡ false }
     {
         match self.action() {
             None => false,
-            Some(action) => self.is_result_hit(guess, held, action, spaces),
+            Some(action) => self.is_result_hit(guess, held, action, buffer),
         }
+    }
+
+    // The same of a word.
+    fn is_word_settled(&self, guess: ListedAt, held: StateWord) -> bool
+        requires { AreBelow (atoms self.now.task) (word_atoms held.bits) }
+        ensures { IsTrue result → clashes_at self.now (word_atoms held.bits) ≡ false }
+    {
+        match self.bits() {
+            None => false,
+            Some(bits) => {
+                let after = bits.result_in(held);
+                self.is_state_hit(guess, &after)
+            }
+        }
+    }
+
+    // Whether the state of the guess is this one, and its set is a negative operand that is asked
+    // about after the action.
+    fn is_state_hit<A: Sought>(&self, guess: ListedAt, held: &A) -> bool
+        requires { IsBelow (atoms self.now.task) (A.has held.now) }
+        ensures { IsTrue result → (state : List Bool) → HasJust self.now.task (A.has held.now) state
+            → IsHit self.now self.now.query.negative true state }
+    {
+        let number = guess.set as usize;
+        if !self.names_set(number, true) {
+            return false;
+        }
+        self.set(number).lists_at(guess.place as usize, held)
     }
 
     // Whether the state of the guess is what the action makes of the state of these atoms, and its
@@ -401,25 +447,22 @@ impl SetsQuery<'_> {
     fn is_result_hit(
         &self,
         guess: ListedAt,
-        held: KeptState<'_>,
+        held: &[u32],
         action: &Action,
-        spaces: &mut Spaces,
+        buffer: &mut StateBuffer,
     ) -> bool
-        requires { IsBelow (atoms self.now.task) (is_after action.now held) }
+        requires below { IsBelow (atoms self.now.task) (is_after action.now held.now) }
+        requires rises { IsStrictlyIncreasing held.now }
         ensures { IsTrue result → (state : List Bool)
-            → HasJust self.now.task (is_after action.now held.entry) state
+            → HasJust self.now.task (is_after action.now held.now) state
             → IsHit self.now self.now.query.negative true state }
     {
-        if guess.place == u32::MAX {
-            return false;
-        }
         let number = guess.set as usize;
         if !self.names_set(number, true) {
             return false;
         }
-        let held = held.slice(&mut spaces.held);
         self.set(number)
-            .has_result_at(guess.place as usize, held, action, &mut spaces.listed)
+            .has_result_at(guess.place as usize, held, action, buffer)
     }
 
     // Whether some negative operand is the set of this number, asked about after the action (true)

@@ -12,7 +12,7 @@ returns c = λ yes state size agree.
     let states = c.states-states.result.now in
     let n = c.args.self.now.atoms in
     subst (λ xs. in_states n xs state ≡ true) c.states-states.ensures.states
-    ((listed_decides n set state size c.requires agree states c.states-states.ensures.below).1 (
+    ((listed_decides n set state size c.requires.below agree states c.states-states.ensures.below).1 (
       c.args.place,
       omega (arith, c.if-place-len.false),
       subst (IsSame set)
