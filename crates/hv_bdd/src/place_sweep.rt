@@ -11,11 +11,11 @@ ghost use Rattle.std.specs.Prelude.{◌≡◌, ◌<◌, ◌≤◌, ◌+◌, ◌+
 ghost use Rattle.std.specs.Prelude.{option_map, filter, nat_eq, false, IfOk, OnOk};
 ghost use Rattle.std.specs.List.{All};
 ghost use Rattle.hv_bdd.specs.Live.{moves, roots};
-ghost use Rattle.hv_bdd.specs.Tuples.{IsReached, least};
+ghost use Rattle.hv_bdd.specs.Tuples.{IsReached, is_live, least, next};
 ghost use Rattle.hv_bdd.specs.Working.Search.{tuples_of};
 ghost use Rattle.hv_bdd.specs.Working.Sweeping.{IsTupleAdded};
 
-use crate::tuple_search::{PlaceMarks, Search, Tuple};
+use crate::tuple_search::{FEW, PlaceMarks, Search, Tuple};
 use indexmap::IndexSet;
 use smallvec::SmallVec;
 use std::alloc::{AllocError, Global};
@@ -255,11 +255,38 @@ impl Search<'_> {
             add(later, Some(copy))?;
             return Ok(());
         }
-        let low = self.next(alloc, tuple, marks, false)?;
-        add(later, low)?;
-        let high = self.next(alloc, tuple, marks, true)?;
-        add(later, high)?;
+        self.add_next(alloc, tuple, marks, false, later)?;
+        self.add_next(alloc, tuple, marks, true, later)?;
         Ok(())
+    }
+
+    // Adds the live tuple to which a bit at the place of these marks leads, if there is one.
+    fn add_next(
+        &self,
+        alloc: Global,
+        tuple: &[u32],
+        marks: &PlaceMarks,
+        bit: bool,
+        later: &mut IndexSet<Tuple>,
+    ) -> Result<(), AllocError>
+        requires tuple { IsTuple self.now tuple.now }
+        requires live { is_live (moves self.now.setting) self.now.asked tuple.now ≡ true }
+        requires least { marks.now.place ≡ least (moves self.now.setting) self.now.asked tuple.now }
+        requires marks { AreMarksOf self.now.setting marks.now }
+        ensures { OnOk result (IsTupleAdded (tuples_of later.old)
+            (next (moves self.now.setting) self.now.asked tuple.now bit) (tuples_of later.new)) }
+    {
+        if tuple.len() > FEW || !self.allows(marks, bit) {
+            let next = self.next(alloc, tuple, marks, bit)?;
+            return add(later, next);
+        }
+        match self.move_few(tuple, marks, bit) {
+            None => Ok(()),
+            Some(row) => {
+                let moved = SmallVec::from_buf_and_len(alloc, row, tuple.len());
+                add(later, Some(moved))
+            }
+        }
     }
 }
 

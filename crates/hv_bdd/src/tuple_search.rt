@@ -1,7 +1,7 @@
 //! The search through live tuples: how a tuple moves.
 
 ghost use Rattle.std.specs.Prelude.{◌≡◌, ◌<◌, ◌≤◌, ◌-◌, ◌&&◌, true, false, cond, length, nat_eq};
-ghost use Rattle.std.specs.Prelude.{nat_lt, option_map, IfOk, IfSome, slice_index_or};
+ghost use Rattle.std.specs.Prelude.{nat_lt, option_map, take, IfOk, IfSome, slice_index_or};
 ghost use Rattle.std.specs.List.{All};
 ghost use Rattle.std.specs.List.Sorted.{IsStrictlyIncreasing};
 ghost use Rattle.hv_task.specs.Atoms.{IsNext};
@@ -25,7 +25,7 @@ use std::alloc::{AllocError, Global};
 use std::marker::Model;
 
 // A tuple of so many operands takes no room of its own.
-const FEW: usize = 8;
+pub(crate) const FEW: usize = 8;
 
 /// A node for each operand.
 pub(crate) type Tuple = SmallVec<u32, FEW>;
@@ -399,7 +399,7 @@ impl Search<'_> {
     }
 
     // Whether the state may have this bit at a place, if there is such a place.
-    fn allows(&self, marks: &PlaceMarks, bit: bool) -> bool
+    pub(crate) fn allows(&self, marks: &PlaceMarks, bit: bool) -> bool
         requires { AreMarksOf self.now.setting marks.now }
         ensures allows { result
             ≡ (nat_lt marks.now.place self.now.setting.list.atoms
@@ -458,16 +458,40 @@ impl Search<'_> {
         if tuple.len() > FEW {
             return self.move_many(alloc, tuple, marks, bit);
         }
-        let mut moved = SmallVec::new(alloc);
+        match self.move_few(tuple, marks, bit) {
+            None => Ok(None),
+            Some(row) => Ok(Some(SmallVec::from_buf_and_len(alloc, row, tuple.len()))),
+        }
+    }
+
+    // The nodes of the tuple to which a bit at a place leads from one of few operands, if it is
+    // live, at the front of a row.
+    #[tactic(auto, using(crate::proofs::Moving::moved_into))]
+    pub(crate) fn move_few(
+        &self,
+        tuple: &[u32],
+        marks: &PlaceMarks,
+        bit: bool,
+    ) -> Option<[u32; FEW]>
+        requires few { length tuple.now ≤ FEW }
+        requires tuple { IsTuple self.now tuple.now }
+        requires live { is_live (moves self.now.setting) self.now.asked tuple.now ≡ true }
+        requires place { marks.now.place < self.now.setting.list.atoms }
+        requires marks { AreMarksOf self.now.setting marks.now }
+        ensures { option_map (take (length tuple.now)) result
+            ≡ if_live (moves self.now.setting) self.now.asked
+            (move_all (moves self.now.setting) marks.now.place bit self.now.asked tuple.now) }
+    {
+        let mut row = [0; FEW];
         for (k, node) in tuple.iter().enumerate() {
             let asked = self.operand(k);
             let to = self.move_one(asked, *node, marks, bit);
             if to == ruled_out(asked.positive) {
-                return Ok(None);
+                return None;
             }
-            moved.push(to)?;
+            row[k] = to;
         }
-        Ok(Some(moved))
+        Some(row)
     }
 
     // The same for a tuple of many operands: it takes room only where it leads to a live one.

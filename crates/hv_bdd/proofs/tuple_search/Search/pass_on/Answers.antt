@@ -1,4 +1,4 @@
-use Rattle.std.proofs.Common.{◌<◌, ◌∙◌, List, Option, Some, ℕ, subst, sym}
+use Rattle.std.proofs.Common.{◌<◌, ◌∙◌, List, Some, ℕ, subst, sym}
 use Rattle.std.proofs.lemmas.Bool.Decides.{Decides-eqb}
 use Rattle.hv_bdd.specs.Live.{moves, roots}
 use Rattle.hv_bdd.specs.Tuples.{least}
@@ -8,12 +8,12 @@ use Rattle.hv_bdd.proofs.Swept.{later_by, moves_on, waits_on}
 use Rattle.hv_bdd.proofs.Tupled.{next_rises, reached_live, reached_tuple}
 use Rattle.hv_bdd.proofs.tuple_search.Search.pass_on.Goals as goal
 
-pub next-requires-clause-tuple : goal.next-requires-clause-tuple
-next-requires-clause-tuple c =
+pub add_next-requires-clause-tuple : goal.add_next-requires-clause-tuple
+add_next-requires-clause-tuple c =
     reached_tuple c.args.self.now c.requires.search c.args.tuple.now c.requires.reached
 
-pub next-requires-2-clause-tuple : goal.next-requires-2-clause-tuple
-next-requires-2-clause-tuple c =
+pub add_next-requires-2-clause-tuple : goal.add_next-requires-2-clause-tuple
+add_next-requires-2-clause-tuple c =
     reached_tuple c.args.self.now c.requires.search c.args.tuple.now c.requires.reached
 
 pub returns-then-not-asks : goal.returns-then-not-asks
@@ -36,20 +36,17 @@ returns c = λ tuples swept.
     let here = (Decides-eqb (least (moves s.setting) s.asked t) v).0
     (sym c.requires.asks ∙ c.if-not-asks.false) in
     moves_on (moves s.setting) s.asked (roots s.setting s.asked) v tuples
-    (tuples_of c.args.later.now) t swept c.requires.reached (tuples_of c.add-2.new.set)
-    (tuples_of c.add-3.new.set) here
+    (tuples_of c.args.later.now) t swept c.requires.reached (tuples_of c.add_next.new.later)
+    (tuples_of c.add_next-2.new.later) here
     (λ u b e. subst (λ n. n < least (moves s.setting) s.asked u) here
     (next_rises s c.requires.search t u b
     (reached_tuple s c.requires.search t c.requires.reached) e))
-    (subst (λ (o : Option (List ℕ)). IsTupleAdded (tuples_of c.args.later.now) o
-    (tuples_of c.add-2.new.set)) c.in_ok-low.ensures c.in_ok-add-2.ensures)
-    (subst (λ (o : Option (List ℕ)). IsTupleAdded (tuples_of c.add-2.new.set) o
-    (tuples_of c.add-3.new.set)) c.in_ok-high.ensures c.in_ok-add-3.ensures)
+    c.in_ok-add_next.ensures c.in_ok-add_next-2.ensures
 
-pub next-requires-clause-live : goal.next-requires-clause-live
-next-requires-clause-live c =
+pub add_next-requires-clause-live : goal.add_next-requires-clause-live
+add_next-requires-clause-live c =
     reached_live c.args.self.now c.requires.search c.args.tuple.now c.requires.reached
 
-pub next-requires-2-clause-live : goal.next-requires-2-clause-live
-next-requires-2-clause-live c =
+pub add_next-requires-2-clause-live : goal.add_next-requires-2-clause-live
+add_next-requires-2-clause-live c =
     reached_live c.args.self.now c.requires.search c.args.tuple.now c.requires.reached
