@@ -1,5 +1,5 @@
 -- The actions of an action set that is a list which rises.
-use Rattle.std.proofs.Common.{◌≡◌, ℕ, zero, suc, ◌<◌, ◌≤◌, ◌+◌, ◌∙◌, ◌⊎◌, ◌++◌, true, false}
+use Rattle.std.proofs.Common.{◌≡◌, ◌↔◌, ℕ, zero, suc, ◌<◌, ◌≤◌, ◌+◌, ◌∙◌, ◌⊎◌, ◌++◌, true, false}
 use Rattle.std.proofs.Common.{List, [], ◌∷◌, Option, Some, length, get_or, eqb, refl, sym, ap}
 use Rattle.std.proofs.Common.{inl, inr, arith}
 use Rattle.std.proofs.lemmas.Bool.{cases_lt, cond-false, cond-true, eq-eqb, eqb-true}
@@ -16,7 +16,7 @@ use Rattle.hv_lines.specs.declared.line.Line.{Line}
 
 module _ (lines : List Line) (acts : ℕ) where
   -- an action that the set hasn't adds nothing
-  none_more : (n : ℕ) → acts_of lines acts n ≡ false
+  pub none_more : (n : ℕ) → acts_of lines acts n ≡ false
       → actions_below lines acts (suc n) ≡ actions_below lines acts n
   none_more n is =
       ap (λ xs. actions_below lines acts n ++ xs)
@@ -28,6 +28,18 @@ module _ (lines : List Line) (acts : ℕ) where
   one_more n is =
       ap (λ xs. actions_below lines acts n ++ xs)
       (cond-true (acts_of lines acts n) (Some n ∷ []) [] is)
+
+  -- the actions of the set are those that are listed
+  pub listed_are : (listed : List ℕ)
+      → acts_of lines acts ≡ (λ number. list_any (λ n. eqb n number) listed) → (number : ℕ)
+      → (acts_of lines acts number ≡ true) ↔ Contains listed number
+  listed_are listed meaning number = (
+    λ has. Contains-from_any {eq = λ x y. eqb y x} (λ x y is. sym (eqb-true y x is)) number listed
+        (sym (ap (λ f. f number) meaning) ∙ has),
+    λ c. ap (λ f. f number) meaning
+        ∙ list_any_at (λ n. eqb n number) listed c.0 number c.1
+        (eq-eqb (get_or listed c.0 number) number c.2),
+  )
 
   gap : (to from : ℕ) → from ≤ to
       → ((n : ℕ) → from ≤ n → n < to → acts_of lines acts n ≡ false)

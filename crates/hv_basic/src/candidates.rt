@@ -1,5 +1,5 @@
-//! For which actions a statement over all actions is asked about: where few states are asked about
-//! before the action, for those that can be applicable in one of them; where one formula is asked
+//! For which actions a statement over all actions, or most of them, is asked about: where few
+//! states are asked about before the action, for those that can be applicable in one of them; where one formula is asked
 //! about before the action and after it, for those that can lead into it, or out of it; where
 //! clauses before the action deny atoms, for those that don't stand in the row of one.
 
@@ -27,6 +27,7 @@ use crate::basic::Question;
 use crate::case::Case;
 use crate::denied::clashes_in_open;
 use crate::framed::{crossing, most_literals};
+use crate::long_lists::{listed_among, long_list};
 use crate::picked::{put, put_row};
 use hv_lines::{Acts, FormulaFamily, Table};
 use hv_sets::{Operand, Query, StateBuffer, StateList, Which};
@@ -83,13 +84,43 @@ fn few_actions(
     if is_node(question.family) {
         return Ok(None);
     }
-    if !is_over_all(case.table, question.acts) {
-        return Ok(None);
+    if is_over_all(case.table, question.acts) {
+        let Some(numbers) = all_clashes(alloc, case, question.family, query)? else {
+            return Ok(None);
+        };
+        return Ok(Some(numbers));
     }
+    let few = few_listed(alloc, case, question, query)?;
+    Ok(few)
+}
+
+/// The same, where the action set is a list of at least half of the actions, and not over diagrams.
+fn few_listed(
+    alloc: Global,
+    case: &Case<'_>,
+    question: &Question,
+    query: &Query,
+) -> Result<Option<AtomList>, AllocError>
+    requires acts { IfSome question.now.acts (λ a. a < acts_count (lines_in case.now)) }
+    requires query { (action : Option ℕ) → with_action query.now action
+        ≡ query_of (lines_in case.now) (question_of question.now) action }
+    requires other { question.now.family ≡ F.Node → ⊥ }
+    ensures among { IfOk result (λ few. IfSome few (λ numbers. (action : Option ℕ)
+        → Contains (map (λ n. Some n) numbers) action
+        → Contains (asked_actions case.now.task.now (lines_in case.now) question.now.acts)
+        action)) }
+    ensures enough { IfOk result (λ few. IfSome few (λ numbers. IsStrictlyIncreasing numbers
+        → AreEnough (setting_in case.now) (lines_in case.now) (question_of question.now) query.now
+        (map (λ n. Some n) numbers))) }
+{
+    let Some(listed) = long_list(case.table, question.acts, case.task.actions()) else {
+        return Ok(None);
+    };
     let Some(numbers) = all_clashes(alloc, case, question.family, query)? else {
         return Ok(None);
     };
-    Ok(Some(numbers))
+    let few = listed_among(alloc, listed, numbers.as_slice(), case.task.actions())?;
+    Ok(Some(few))
 }
 
 /// The first action and those for which the query can have a counterexample, where there is a way

@@ -21,8 +21,9 @@
 //!   too, `families` looks for the one family, and `rising` puts both parts in order.
 //! - Either way `verdicts::decide_sets` decides the question. It makes the query of it by the names
 //!   that the `store` keeps. `candidates` says for which actions it is asked: where these are all,
-//!   and few states are asked about before the action, for those that can be applicable there, by
-//!   the `action_rows` that the `store` keeps; where one formula is asked about at both times
+//!   or most (`long_lists`), and few states are asked about before the action, for those that can
+//!   be applicable there, by the `action_rows` that the `store` keeps; where one formula is asked
+//!   about at both times
 //!   (`framed`), for those that can turn a literal of it (`turned`), by the `change_rows` that the
 //!   `store` keeps, or by a look at each action; where that formula says of pairs of atoms that
 //!   they exclude each other, for those that its `companions` don't tell to stay in it
@@ -93,8 +94,13 @@
 //! store has none, since each query would put that state down anew. All actions are asked about
 //! where a list has more than 64 states, or the rows of its atoms have more than a quarter as many
 //! actions as the task; over diagrams, whose cost hangs on the action; and where the action set is
-//! a list or a union. The atoms of a state are compared as rising lists, which differ exactly where
-//! the states do.
+//! a union or a short list. The atoms of a state are compared as rising lists, which differ exactly
+//! where the states do.
+//!
+//! Where the action set is a list that rises and has at least half of the task's actions
+//! (`long_lists`), the actions are found in the same ways, and those are asked about that it lists,
+//! and the first one that it lists, which has the cost. They are looked up in the list, which isn't
+//! gone through but to see that it rises.
 //!
 //! Where a formula in clauses is asked about positively before the action and negatively after it,
 //! a counterexample leads out of the formula, so its action makes some literal of it false: it
@@ -151,6 +157,7 @@ pub mod kinds;
 pub mod laws;
 mod leaves;
 mod lefts;
+mod long_lists;
 mod mixed;
 mod node_walk;
 mod picked;

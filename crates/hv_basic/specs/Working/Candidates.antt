@@ -1,8 +1,10 @@
--- Which actions can be applicable in one of few states.
-use Rattle.std.specs.Prelude.{◌≡◌, ◌<◌, ℕ, Bool, true, false, List, Option, Some, length}
+-- Which actions can be applicable in one of few states, and which of those that are chosen can have
+-- a counterexample.
+use Rattle.std.specs.Prelude.{◌≡◌, ◌<◌, ◌↔◌, ℕ, Bool, true, false, List, Option, Some, length}
 use Rattle.std.specs.Prelude.{slice_get}
 use Rattle.std.specs.Global.{Vec}
 use Rattle.std.specs.List.{All, Contains}
+use Rattle.std.specs.List.Sorted.{IsStrictlyIncreasing}
 use Rattle.hv_task.specs.declared.action.Action.{Action}
 use Rattle.hv_task.specs.State.{AreBelow, applicable}
 use Rattle.hv_task.specs.Strips.{Strips, atoms}
@@ -59,5 +61,32 @@ pub record HaveAllClashes (task : Strips) (sets : ℕ → List Bool → Bool) (q
     pub first : 0 < length task.actions → Contains listed 0
     pub each : (number : ℕ) (state : List Bool) → number < length task.actions
         → length state ≡ atoms task
+        → is_clash task sets (with_action query (Some number)) state ≡ true
+        → Contains listed number
+
+-- the action set lists these actions, which rise
+abbrev pub IsRisingList : List Line → Option ℕ → List ℕ → Type 0
+IsRisingList lines set listed =
+    (acts : ℕ) × (set ≡ Some acts)
+    × ((number : ℕ) → (acts_of lines acts number ≡ true) ↔ Contains listed number)
+    × IsStrictlyIncreasing listed
+
+-- these are listed and below the bound: those of the numbers that are, and some where any is
+pub record AreListedAmong (listed numbers : List ℕ) (bound : ℕ) (few : List ℕ) : Type 0 where
+  pub only : (k : ℕ) → Contains few k → Contains listed k × (k < bound)
+  pub some : (k : ℕ) → Contains listed k → k < bound → 0 < length few
+  pub each : (k : ℕ) → Contains numbers k → Contains listed k → k < bound → Contains few k
+
+-- the list is of chosen actions of the task: some where there are any, and each one for which the
+-- query has a counterexample
+pub record HaveClashesAmong (task : Strips) (sets : ℕ → List Bool → Bool) (query : Query)
+    (chosen : ℕ → Bool) (listed : List ℕ) : Type 0
+  where
+    pub below : AreBelow (length task.actions) listed
+    pub only : (number : ℕ) → Contains listed number → chosen number ≡ true
+    pub some : (number : ℕ) → number < length task.actions → chosen number ≡ true
+        → 0 < length listed
+    pub each : (number : ℕ) (state : List Bool) → number < length task.actions
+        → chosen number ≡ true → length state ≡ atoms task
         → is_clash task sets (with_action query (Some number)) state ≡ true
         → Contains listed number
