@@ -17,13 +17,13 @@ ghost use Rattle.hv_trap.specs.Working.Trap.{EncloseTrap, Escapes};
 
 use hv_sets::{Clauses, Family, Finding, Literal, Operand, Operands, Query, Scratch, Which};
 use hv_task::{State, Task};
-use hv_twocnf::{TwoCnf, TwoCnfs};
+use hv_twocnf::{LeanTwoCnf, LeanTwoCnfs};
 use std::alloc::{AllocError, Global};
 
 /// A formula and a query of it, of which only the action changes.
 #[derive(Drop)]
 pub(crate) struct TrapQuery {
-    store: TwoCnfs,
+    store: LeanTwoCnfs,
     query: Query,
     scratch: Scratch,
 }
@@ -81,9 +81,9 @@ fn asking_of(alloc: Global, task: &Task, clauses: &Clauses) -> Result<TrapQuery,
     ensures asking { IfOk result (λ asking. IsAsking task.now asking) }
     ensures formula { IfOk result (λ asking. clauses_asked asking ≡ clauses.now) }
 {
-    let mut store = TwoCnfs::new(alloc);
+    let mut store = LeanTwoCnfs::new(alloc);
     // Each clause has at most two literals, so running out of memory is the only fault.
-    match TwoCnf::new(alloc, task, clauses) {
+    match LeanTwoCnf::new(alloc, task, clauses) {
         Ok(formula) => {
             store.add(formula)?;
         }
