@@ -14,7 +14,7 @@ use hv_formula::{ClauseKind, Formula};
 use hv_horn::{DualHornKind, HornKind};
 use hv_sets::{Covering, Cube, Cursor, Inside, Literal, Outside, Scratch, StateSet, Step};
 use hv_task::Task;
-use hv_twocnf::TwoKind;
+use hv_twocnf::{LeanTwoKind, TwoKind};
 use std::alloc::{AllocError, Global};
 use std::test::Fail;
 
@@ -470,7 +470,8 @@ fn two_code_is_right(alloc: Global, code: u32) -> Result<bool, Fail> {
     }
     let alone = clauses_are_right::<TwoKind>(alloc, &[code])?;
     let beside = clauses_are_right::<TwoKind>(alloc, &[code, 18, 3])?;
-    Ok(alone & beside)
+    let lean = clauses_are_right::<LeanTwoKind>(alloc, &[code, 18, 3])?;
+    Ok(alone & beside & lean)
 }
 
 #[test]

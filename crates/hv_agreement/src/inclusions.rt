@@ -15,7 +15,7 @@ use hv_mixed::{apart, together, within, within_states};
 use hv_paths::{InsideAsked, InsideWalked, OutsideAsked, OutsideWalked};
 use hv_sets::Scratch;
 use hv_task::Task;
-use hv_twocnf::TwoKind;
+use hv_twocnf::{LeanTwoKind, TwoKind};
 use std::alloc::{AllocError, Global};
 use std::test::Fail;
 
@@ -414,6 +414,7 @@ fn code_is_right(
     }
     if is_two_code(code) {
         right &= formula_is_right::<TwoKind>(alloc, task, listing, left, &[code, 3])?;
+        right &= formula_is_right::<LeanTwoKind>(alloc, task, listing, left, &[code, 3])?;
     }
     Ok(right)
 }

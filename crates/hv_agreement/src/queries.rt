@@ -23,7 +23,7 @@ use hv_formula::ClauseKind;
 use hv_horn::{DualHornKind, HornKind};
 use hv_sets::{Family, Finding, Operands, Query, Scratch, Which};
 use hv_task::Task;
-use hv_twocnf::TwoKind;
+use hv_twocnf::{LeanTwoKind, TwoKind};
 use std::alloc::{AllocError, Global};
 use std::test::Fail;
 
@@ -896,7 +896,8 @@ fn two_code_is_right(alloc: Global, code: u32) -> Result<bool, Fail> {
     }
     let sets = [code, beside(code)];
     let right = clauses_are_right::<TwoKind>(alloc, code / 64, &sets, &sets[1..])?;
-    Ok(right)
+    let lean = clauses_are_right::<LeanTwoKind>(alloc, code / 64, &sets, &sets[1..])?;
+    Ok(right & lean)
 }
 
 fn horn_pair_is_right(alloc: Global, one: u32, other: u32) -> Result<bool, Fail> {

@@ -16,7 +16,7 @@ use hv_formula::{ClauseKind, Formula};
 use hv_horn::{DualHorn, DualHornFault, DualHornKind, Horn, HornFault, HornKind};
 use hv_sets::{Clause, Clauses, Family, Finding, Literal, Query, Scratch, Which};
 use hv_task::{Name, State, Task};
-use hv_twocnf::{TwoCnf, TwoCnfFault, TwoKind};
+use hv_twocnf::{LeanTwoKind, TwoCnf, TwoCnfFault, TwoKind};
 use std::alloc::{AllocError, Global};
 use std::test::Fail;
 
@@ -448,6 +448,7 @@ fn chains_of_atoms_are_followed(rt: HostRuntime) -> Result<(), Fail> {
         assert!(rt; is_answered::<HornKind>(rt.alloc(), missing)?);
         assert!(rt; is_answered::<DualHornKind>(rt.alloc(), missing)?);
         assert!(rt; is_answered::<TwoKind>(rt.alloc(), missing)?);
+        assert!(rt; is_answered::<LeanTwoKind>(rt.alloc(), missing)?);
     }
     Ok(())
 }
