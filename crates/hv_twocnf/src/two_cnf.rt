@@ -1,6 +1,10 @@
 //! 2CNF formulas: the kind, and the set and the store of it.
+//!
+//! A formula can keep what each of its literals implies at once, to hand it out; that takes a third
+//! of the time in which it is made. Where formulas are only asked about, as those of a proof are,
+//! nobody reads it: `LeanTwoKind` doesn't keep it.
 
-ghost use Rattle.std.specs.Prelude.{◌≡◌, ◌↔◌, IsTrue};
+ghost use Rattle.std.specs.Prelude.{◌≡◌, ◌↔◌, IsTrue, if◌then◌else◌};
 ghost use Rattle.std.specs.List.{All};
 ghost use Rattle.hv_sets.specs.Kinds.{IsTwoClause};
 ghost use Rattle.hv_propagation.specs.declared.completion.Completion.TheVariants as C;
@@ -36,24 +40,36 @@ impl From<AllocError> for TwoCnfFault {
     }
 }
 
-/// Clauses of at most two different literals. Values are tried for the atoms of which nothing is
-/// known.
-pub enum TwoKind {}
+/// Clauses of at most two different literals, in formulas that keep what each literal implies at
+/// once (true), or don't. Values are tried for the atoms of which nothing is known.
+pub enum TwoLiteralKind<const LISTED: bool> {}
+
+/// The kind of formulas that hand out what each literal implies at once.
+pub type TwoKind = TwoLiteralKind<true>;
+
+/// The kind of formulas that keep nothing beside where their literals stand.
+pub type LeanTwoKind = TwoLiteralKind<false>;
 
 /// A 2CNF formula: the set of the states of a task in which each of its clauses is true.
 pub type TwoCnf = Formula<TwoKind>;
 
-/// The 2CNF formulas of a proof, numbered from 0 in the order in which they were added.
+/// The same, without what each literal implies at once.
+pub type LeanTwoCnf = Formula<LeanTwoKind>;
+
+/// 2CNF formulas, numbered from 0 in the order in which they were added.
 pub type TwoCnfs = Formulas<TwoKind>;
 
-impl ClauseKind for TwoKind {
+/// The 2CNF formulas of a proof, numbered in the same way.
+pub type LeanTwoCnfs = Formulas<LeanTwoKind>;
+
+impl<const LISTED: bool> ClauseKind for TwoLiteralKind<LISTED> {
     type Fault = TwoCnfFault;
 
     ghost is_of = { IsTwoClause };
 
     ghost completed_by = { C.Try };
 
-    ghost listed_by = { L.Implied };
+    ghost listed_by = { if LISTED then L.Implied else L.Negative };
 
     ghost is_fault = { IsTwoCnfFault };
 
@@ -69,7 +85,11 @@ impl ClauseKind for TwoKind {
     }
 
     fn listing() -> KeptLists {
-        KeptLists::Implied
+        if LISTED {
+            KeptLists::Implied
+        } else {
+            KeptLists::Negative
+        }
     }
 
     fn other(place: usize) -> TwoCnfFault {
