@@ -1,7 +1,8 @@
 //! For which actions a statement over all actions, or most of them, is asked about: where few
-//! states are asked about before the action, for those that can be applicable in one of them; where one formula is asked
-//! about before the action and after it, for those that can lead into it, or out of it; where
-//! clauses before the action deny atoms, for those that don't stand in the row of one.
+//! states are asked about before the action, for those that can be applicable in one of them; where
+//! one formula is asked about before the action and after it, for those that can lead into it, or
+//! out of it; where clauses before the action deny atoms, for those that don't stand in the row of
+//! one.
 
 ghost use Rattle.std.specs.Prelude.{◌≡◌, ◌<◌, ◌⊎◌, ◌↔◌, ℕ, Option, Some, false, length, map};
 ghost use Rattle.std.specs.Prelude.{IfOk, IfSome, IsTrue, OnOk};
