@@ -22,39 +22,47 @@ pub record FollowsFrom (Met : List Bool → Type 0) (Left : Knowledge → ℕ �
   pub has : (state : List Bool) → length state ≡ length knowledge.roots
       → Agrees (marks_of knowledge) state → in_cube literals state ≡ true
 
--- The same before each of the literals, where the trail was as long as its point says, and after
--- the last one; or no state that meets the condition is in their cube.
+-- Some first literals of what is assumed, from which all follows that is known; what is known of the
+-- literals that were put on the trail, and of those that were known when they were assumed. How long
+-- the trail was before each literal that was put on it, is a start, and each literal that is assumed
+-- has how many starts were before it.
 pub record FollowsFromEach (Met : List Bool → Type 0) (Left : Knowledge → ℕ → Type 0)
-    (knowledge : Knowledge) (literals : List Literal) (points : List ℕ)
-    (refuted : Bool) : Type 0 where
-  pub sizes : length points ≡ length literals
-  pub rises : (i j : ℕ) → i ≤ j → j < length points
-      → slice_index_or points i 0 ≤ slice_index_or points j 0
-  pub within : (i : ℕ) → i < length points
-      → slice_index_or points i 0 ≤ length knowledge.trail
-  pub before : (i : ℕ) → i < length points
-      → FollowsFrom Met Left (knowledge_upto knowledge (slice_index_or points i 0))
+    (knowledge : Knowledge) (place : ℕ) (starts : List ℕ) (literals : List Literal)
+    (counts : List ℕ) (broken clashes : Bool) : Type 0 where
+  pub firm : ℕ
+  pub firm_within : firm ≤ length literals
+  pub firm_counts : (i : ℕ) → i < firm → slice_index_or counts i 0 < length starts
+  pub sizes : length counts ≡ length literals
+  pub counts_rise : (i j : ℕ) → i ≤ j → j < length counts
+      → slice_index_or counts i 0 ≤ slice_index_or counts j 0
+  pub counts_within : (i : ℕ) → i < length counts → slice_index_or counts i 0 ≤ length starts
+  pub starts_rise : (i j : ℕ) → i ≤ j → j < length starts
+      → slice_index_or starts i 0 ≤ slice_index_or starts j 0
+  pub starts_within : (i : ℕ) → i < length starts
+      → slice_index_or starts i 0 ≤ length knowledge.trail
+  -- before a literal that was put on the trail all was followed up
+  pub before : (i : ℕ) → i < length counts → slice_index_or counts i 0 < length starts
+      → FollowsFrom Met Left
+      (knowledge_upto knowledge (slice_index_or starts (slice_index_or counts i 0) 0))
       (take i literals)
-  pub here : refuted ≡ false → FollowsFrom Met Left knowledge literals
-  pub none : refuted ≡ true → (state : List Bool) → length state ≡ length knowledge.roots
+  -- what is left to follow up, and what is known
+  pub place_within : place ≤ length knowledge.trail
+  pub left : broken ≡ false → Left knowledge place
+  pub follows : (state : List Bool) → length state ≡ length knowledge.roots → Met state
+      → in_cube (take firm literals) state ≡ true → Agrees (marks_of knowledge) state
+  pub has : broken ≡ false → (i : ℕ) → i ≤ length literals → (clashes ≡ true → i < length literals)
+      → (state : List Bool) → length state ≡ length knowledge.roots
+      → Agrees (marks_of knowledge) state → in_cube (take i literals) state ≡ true
+  -- where no state is left
+  pub none : broken ≡ true → (state : List Bool) → length state ≡ length knowledge.roots
+      → Met state → in_cube (take firm literals) state ≡ true → ⊥
+  pub none_here : clashes ≡ true → (state : List Bool) → length state ≡ length knowledge.roots
       → Met state → in_cube literals state ≡ true → ⊥
 
--- one more literal was assumed, with all that follows; or no state that agrees with what was known
--- and has the literal meets the condition
-pub record IsTakenUp (Met : List Bool → Type 0) (Left : Knowledge → ℕ → Type 0)
-    (old new : Knowledge) (literal : Literal) (result : Bool) : Type 0 where
-  pub grown : Grows old new
-  pub left : result ≡ true → Left new (length new.trail)
-  pub follows : (state : List Bool) → length state ≡ length old.roots → Met state
-      → Agrees (marks_of old) state → in_literal literal state ≡ true
-      → Agrees (marks_of new) state
-  pub has : result ≡ true → known (marks_of new) literal.atom ≡ Some literal.positive
-  pub none : result ≡ false → (state : List Bool) → length state ≡ length old.roots → Met state
-      → Agrees (marks_of old) state → in_literal literal state ≡ true → ⊥
-
 -- a question about a formula: what is known after each literal that is assumed
-pub record IsAskedAlong (formula : FormulaState) (knowledge : Knowledge) (literals : List Literal)
-    (points : List ℕ) (refuted : Bool) : Type 0 where
+pub record IsAskedAlong (formula : FormulaState) (knowledge : Knowledge) (place : ℕ)
+    (starts : List ℕ) (literals : List Literal) (counts : List ℕ)
+    (broken clashes : Bool) : Type 0 where
   pub size : length knowledge.roots ≡ formula.atoms
   pub each : FollowsFromEach (λ state. in_clauses formula.clauses (over [] state) ≡ true)
-      (AreKept [] formula.clauses) knowledge literals points refuted
+      (AreKept [] formula.clauses) knowledge place starts literals counts broken clashes

@@ -1,32 +1,75 @@
-use Rattle.std.proofs.Common.{◌∙◌, refl, sym, subst}
-use Rattle.std.proofs.lemmas.Bool.{not-true}
+use Rattle.std.proofs.Common.{◌≡◌, ◌∙◌, ◌≤◌, [], true, false, length, refl, sym, ap, subst, arith}
 use Rattle.hv_formula.specs.Working.Asking.{IsAskedAlong}
+use Rattle.hv_propagation.specs.Chase.{AreKept}
 use Rattle.hv_propagation.specs.Trail.{Knowledge}
-use Rattle.hv_formula.proofs.Asking.{asked_left, asked_meets}
+use Rattle.hv_formula.proofs.Asking.{asked_again, asked_broken, asked_followed, asked_left}
+use Rattle.hv_formula.proofs.Asking.{asked_meets, asked_none, asked_open, asked_shut}
 use Rattle.hv_formula.proofs.formula_ask.FormulaAskAsker.meets.Goals as goal
 
-pub complete_in-requires-clause-size : goal.complete_in-requires-clause-size
-complete_in-requires-clause-size g c = c.requires.stands.size
+pub close-requires-clause-left : goal.close-requires-clause-left
+close-requires-clause-left g c =
+    let q = c.args.self.now in
+    let a = asked_open q.set.now q.marks q.place q.starts.items q.literals.items q.counts.items
+    q.broken q.clashes c.requires.stands c.requires.open in
+    asked_left q.set.now c.bare-bare.result.clauses.now q.marks q.place q.starts.items
+    q.literals.items q.counts.items false c.bare-bare.ensures.clauses a
+
+pub returns-then-not-close-clause-meets : goal.returns-then-not-close-clause-meets
+returns-then-not-close-clause-meets g c =
+    let q = c.args.self.now in
+    let a = asked_open q.set.now q.marks q.place q.starts.items q.literals.items q.counts.items
+    q.broken q.clashes c.requires.stands c.requires.open in
+    let b = asked_broken q.set.now c.bare-bare.result.clauses.now q.marks c.close.new.marks
+    q.place q.starts.items q.literals.items q.counts.items c.bare-bare.ensures.clauses a
+    c.if-not-close.ensures.followed in
+    asked_none q.set.now c.close.new.marks q.place q.starts.items q.literals.items
+    q.counts.items true false b refl
+
+pub returns-then-not-close-clause-stands : goal.returns-then-not-close-clause-stands
+returns-then-not-close-clause-stands g c =
+    let q = c.args.self.now in
+    let a = asked_open q.set.now q.marks q.place q.starts.items q.literals.items q.counts.items
+    q.broken q.clashes c.requires.stands c.requires.open in
+    let b = asked_broken q.set.now c.bare-bare.result.clauses.now q.marks c.close.new.marks
+    q.place q.starts.items q.literals.items q.counts.items c.bare-bare.ensures.clauses a
+    c.if-not-close.ensures.followed in
+    asked_shut q.set.now c.close.new.marks q.place q.starts.items q.literals.items
+    q.counts.items q.broken q.clashes c.requires.open b
 
 pub complete_in-requires-clause-left : goal.complete_in-requires-clause-left
 complete_in-requires-clause-left g c =
     let q = c.args.self.now in
-    asked_left q.set.now q.set.now.clauses q.marks q.literals.items q.points.items refl
-    (subst (λ b. IsAskedAlong q.set.now q.marks q.literals.items q.points.items b)
-    (not-true q.refuted c.requires.open) c.requires.stands)
+    subst (λ cs. AreKept [] cs c.close.new.marks (length c.close.new.marks.trail))
+    c.bare-bare.ensures.clauses (c.if-not-close.ensures.left refl)
 
 pub returns-clause-meets : goal.returns-clause-meets
 returns-clause-meets g c =
     let q = c.args.self.now in
-    asked_meets q.set.now q.marks q.literals.items q.points.items c.complete_in.new.state
-    c.complete_in.result
-    (subst (λ b. IsAskedAlong q.set.now q.marks q.literals.items q.points.items b)
-    (not-true q.refuted c.requires.open) c.requires.stands)
+    let a = asked_open q.set.now q.marks q.place q.starts.items q.literals.items q.counts.items
+    q.broken q.clashes c.requires.stands c.requires.open in
+    let k = c.close.new.marks in
+    let b = asked_followed q.set.now c.bare-bare.result.clauses.now q.marks k q.place
+    (length k.trail) q.starts.items q.literals.items q.counts.items true
+    c.bare-bare.ensures.clauses a c.if-not-close.ensures.followed (omega arith)
+    c.if-not-close.ensures.left in
+    asked_meets q.set.now k (length k.trail) q.starts.items q.literals.items q.counts.items
+    c.complete_in.new.state c.complete_in.result b
     (c.complete_in.ensures.state ∙ (c.in_ok-reserve.ensures.room.state ∙ c.atoms.ensures))
     c.complete_in.ensures.completed
 
 pub returns-clause-stands : goal.returns-clause-stands
 returns-clause-stands g c =
     let q = c.args.self.now in
-    subst (λ (k : Knowledge). IsAskedAlong q.set.now k q.literals.items q.points.items q.refuted)
-    (sym c.complete_in.ensures.same) c.requires.stands
+    let a = asked_open q.set.now q.marks q.place q.starts.items q.literals.items q.counts.items
+    q.broken q.clashes c.requires.stands c.requires.open in
+    let k = c.close.new.marks in
+    let b = asked_followed q.set.now c.bare-bare.result.clauses.now q.marks k q.place
+    (length k.trail) q.starts.items q.literals.items q.counts.items true
+    c.bare-bare.ensures.clauses a c.if-not-close.ensures.followed (omega arith)
+    c.if-not-close.ensures.left in
+    let back = asked_again q.set.now k (length k.trail) q.starts.items q.literals.items
+    q.counts.items q.broken q.clashes c.requires.open b in
+    subst (λ n. IsAskedAlong q.set.now c.complete_in.new.marks n q.starts.items q.literals.items
+    q.counts.items q.broken q.clashes) (sym c.len-self.ensures.len)
+    (subst (λ (r : Knowledge). IsAskedAlong q.set.now r (length k.trail) q.starts.items
+    q.literals.items q.counts.items q.broken q.clashes) (sym c.complete_in.ensures.same) back)
