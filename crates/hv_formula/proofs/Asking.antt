@@ -412,8 +412,8 @@ module _ (Met : List Bool → Type 0) (Left : Knowledge → ℕ → Type 0) wher
           has = λ sound i low _ s size agrees.
               let within : i ≤ depth = omega (arith, low, size_l) in
               ap (λ ls. in_cube ls s) (front i within)
-              ∙ c.has sound i (omega (arith, within, less)) (λ _. omega (arith, within, less)) s size
-              agrees;
+              ∙ c.has sound i (omega (arith, within, less)) (λ _. omega (arith, within, less)) s
+              size agrees;
           none = λ is s size met inside. c.none is s size met
               (sym (ap (λ ls. in_cube ls s) (front c.firm late)) ∙ inside);
           none_here = λ is. never is;

@@ -3,8 +3,8 @@
 //!
 //! The trail is in rows of its own, while a search takes those of the scratch and no memory: what
 //! is in rows that are lent isn't known once the loan is over, and the question must know it from
-//! call to call. How long it was before each literal that was put on it is kept, so that taking back
-//! is one write.
+//! call to call. How long it was before each literal that was put on it is kept, so that taking
+//! back is one write.
 //!
 //! What is assumed is followed up only until something is known of the literal that comes next, and
 //! to the end where a state is asked for. So where each literal implies many at once, those cost

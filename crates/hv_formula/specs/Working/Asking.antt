@@ -1,12 +1,12 @@
 -- What is known after each of some literals was assumed.
-use Rattle.std.specs.Prelude.{◌≡◌, ◌<◌, ◌≤◌, ℕ, Bool, true, false, List, [], Some, length, take}
+use Rattle.std.specs.Prelude.{◌≡◌, ◌<◌, ◌≤◌, ℕ, Bool, true, false, List, [], length, take}
 use Rattle.std.specs.Prelude.{slice_index_or}
 use Rattle.hv_sets.specs.declared.literal.Literal.{Literal}
-use Rattle.hv_sets.specs.Truth.{in_clauses, in_cube, in_literal}
+use Rattle.hv_sets.specs.Truth.{in_clauses, in_cube}
 use Rattle.hv_formula.specs.Clausal.{FormulaState}
-use Rattle.hv_propagation.specs.Marks.{known, over, Agrees}
+use Rattle.hv_propagation.specs.Marks.{over, Agrees}
 use Rattle.hv_propagation.specs.Chase.{AreKept}
-use Rattle.hv_propagation.specs.Trail.{Grows, Knowledge, marks_of}
+use Rattle.hv_propagation.specs.Trail.{Knowledge, marks_of}
 
 -- what was known when the trail was so long
 abbrev pub knowledge_upto : Knowledge → ℕ → Knowledge
@@ -22,10 +22,10 @@ pub record FollowsFrom (Met : List Bool → Type 0) (Left : Knowledge → ℕ �
   pub has : (state : List Bool) → length state ≡ length knowledge.roots
       → Agrees (marks_of knowledge) state → in_cube literals state ≡ true
 
--- Some first literals of what is assumed, from which all follows that is known; what is known of the
--- literals that were put on the trail, and of those that were known when they were assumed. How long
--- the trail was before each literal that was put on it, is a start, and each literal that is assumed
--- has how many starts were before it.
+-- Some first literals of what is assumed, from which all follows that is known; and the same before
+-- each literal that was put on the trail, which others aren't that were known when they were
+-- assumed. How long the trail was before such a literal is a start, and with each literal that is
+-- assumed stands how many starts were before it.
 pub record FollowsFromEach (Met : List Bool → Type 0) (Left : Knowledge → ℕ → Type 0)
     (knowledge : Knowledge) (place : ℕ) (starts : List ℕ) (literals : List Literal)
     (counts : List ℕ) (broken clashes : Bool) : Type 0 where

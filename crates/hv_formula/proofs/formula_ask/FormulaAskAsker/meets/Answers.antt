@@ -1,4 +1,4 @@
-use Rattle.std.proofs.Common.{◌≡◌, ◌∙◌, ◌≤◌, [], true, false, length, refl, sym, ap, subst, arith}
+use Rattle.std.proofs.Common.{◌∙◌, [], true, false, length, refl, sym, subst, arith}
 use Rattle.hv_formula.specs.Working.Asking.{IsAskedAlong}
 use Rattle.hv_propagation.specs.Chase.{AreKept}
 use Rattle.hv_propagation.specs.Trail.{Knowledge}
