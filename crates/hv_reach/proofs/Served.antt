@@ -4,7 +4,7 @@ use Rattle.std.proofs.Common.{◌∷◌, length, set, get_or, slice_get, Some, r
 use Rattle.std.proofs.Common.{inr, subst, Option, None, ◌&&◌, not}
 use Rattle.std.proofs.lemmas.Bool.{cases_Bool, cases_eq, cases_lt}
 use Rattle.std.proofs.lemmas.Grind.{get_or-set_at}
-use Rattle.std.proofs.lemmas.List.{get_or_default, get_or_past, get_or-set_other, length-set}
+use Rattle.std.proofs.lemmas.List.{get_or_default, get_or_past, get_or-set_other}
 use Rattle.std.proofs.lemmas.Option.{slice_get_within}
 use Rattle.std.proofs.lemmas.List.Elements.{All-cons, All-contains, All-contains_itself, All-nil}
 use Rattle.std.specs.Global.{Vec}
@@ -17,7 +17,7 @@ use Rattle.hv_task.specs.State.{AreBelow, has_atom, names_atom}
 use Rattle.hv_task.proofs.Listing.{within_state}
 use Rattle.hv_task.proofs.Places.{names_atom-Decides}
 use Rattle.hv_task.proofs.Rising.{rises_apart}
-use Rattle.hv_reach.proofs.Sets.{All-from_zero, set_grows, slice_get_at}
+use Rattle.hv_reach.proofs.Sets.{All-from_zero, set_grows}
 use Rattle.hv_reach.proofs.Steps.{quiet_or}
 use Rattle.hv_reach.proofs.Turns.{lowered_stays}
 use Rattle.hv_reach.specs.declared.pair_course.Glance.{Glance}
@@ -25,10 +25,10 @@ use Rattle.hv_reach.specs.declared.pair_course.Lack.{Lack}
 use Rattle.hv_reach.specs.declared.pair_course.News.{News}
 use Rattle.hv_reach.specs.declared.pair_course.ActionStanding.{ActionStanding}
 use Rattle.hv_reach.specs.declared.pair_course.ActionStanding.TheVariants as S
-use Rattle.hv_reach.specs.Index.{IsActionIndex}
+use Rattle.hv_reach.specs.Index.{IsActionIndex, IsIn}
 use Rattle.hv_reach.specs.Reached.{HasPairsOf, LeavesAlone, has_pair}
-use Rattle.hv_reach.specs.Working.Course.{AreNewsBelow, ArePairedBefore, IsGlance, IsLack}
-use Rattle.hv_reach.specs.Working.Course.{IsNews, IsServed}
+use Rattle.hv_reach.specs.Working.Course.{ArePairedBefore, IsAskedFor, IsGlance}
+use Rattle.hv_reach.specs.Working.Course.{IsLack, IsNews, IsServed}
 use Rattle.hv_reach.specs.Working.Course.{IsTelling, IsRowTold, StandAll, StandAllBut, StandsSo}
 use Rattle.hv_reach.specs.Working.Table.{HasItsPairs, IsJoined, IsPairStep, IsPairTable}
 
@@ -37,20 +37,32 @@ abbrev pub Grows : List (List Bool) → List (List Bool) → Type 0
 Grows old new = (p q : ℕ) → has_pair old p q ≡ true → has_pair new p q ≡ true
 
 -- what was told stays so after a step
-pub told_step : (n : ℕ) (old new : List (List Bool)) (flags raised : List Bool) (m : Bool)
-    (told : List (List Bool)) → IsPairStep n old flags new raised m → IsRowTold n old flags told
-    → IsRowTold n new raised told
-told_step n old new flags raised m told step before = record {
+pub told_step : (n : ℕ) (Asked : ℕ → Type 0) (old new : List (List Bool)) (flags raised : List Bool)
+    (m : Bool) (told : List (List Bool)) → IsPairStep n old flags new raised m
+    → IsRowTold n Asked old flags told → IsRowTold n Asked new raised told
+told_step n Asked old new flags raised m told step before = record {
   size = before.size;
   each = before.each;
   within = λ p q h. step.grows p q (before.within p q h);
-  raised = λ p q h. elim (step.raises p q h) [
-    | inl o ↦ elim (before.raised p q o) [
+  raised = λ p asked q h. elim (step.raises p q h) [
+    | inl o ↦ elim (before.raised p asked q o) [
       | inl d ↦ inl d
       | inr f ↦ inr (step.stay p f)
     ]
     | inr w ↦ inr w.0
   ];
+}
+
+-- where it is so of the atoms that some action asks for, it is so of those that this one asks for
+pub told_for : (n : ℕ) (actions : List Action) (rows : List (List Bool)) (flags : List Bool)
+    (told : List (List Bool)) (k : ℕ) (a : Action) → slice_get actions k ≡ Some a
+    → IsRowTold n (IsAskedFor actions) rows flags told
+    → IsRowTold n (Contains a.pre) rows flags told
+told_for n actions rows flags told k a is before = record {
+  size = before.size;
+  each = before.each;
+  within = before.within;
+  raised = λ p asked. before.raised p (k, a, is, asked);
 }
 
 -- a pair of a table is of two of its rows
@@ -64,23 +76,30 @@ first_within rows p q h =
     ]
 
 -- and where a row is told, and its flag lowered
-pub told_lowered : (n : ℕ) (rows old new : List (List Bool)) (flags : List Bool) (x : ℕ)
-    (news : News) → IsPairTable n rows → IsRowTold n rows flags old → IsTelling n rows old new x news
-    → IsRowTold n rows (set flags x false) new
-told_lowered n rows old new flags x news table before tells = record {
+pub told_lowered : (n : ℕ) (actions : List Action) (index : List (Vec ℕ)) (row : Vec ℕ)
+    (rows old new : List (List Bool)) (flags : List Bool) (x : ℕ) (news : News)
+    → IsActionIndex n actions index → slice_get index x ≡ Some row → IsPairTable n rows
+    → IsRowTold n (IsAskedFor actions) rows flags old → IsTelling n row.items rows old new x news
+    → IsRowTold n (IsAskedFor actions) rows (set flags x false) new
+told_lowered n actions index row rows old new flags x news is_index at table before tells = record {
   size = tells.size;
   each = tells.each;
   within = λ p q h. elim (tells.fresh p q h) [
     | inl o ↦ before.within p q o
     | inr w ↦ subst (λ y. has_pair rows y q ≡ true) (sym w.0) w.1
   ];
-  raised = λ p q h. elim (cases_eq x p) [
+  raised = λ p asked q h. elim (cases_eq x p) [
     | inl same ↦
         let less = first_within rows p q h in
         let size = table.size in
+        let one = All-contains (λ y. IsIn index y asked.0) asked.1.pre p
+        (is_index.has asked.0 asked.1 asked.2) asked.3 row
+        (subst (λ y. slice_get index y ≡ Some row) same at) in
+        let some = one.1 in
         inl (subst (λ y. has_pair new y q ≡ true) same
-        (tells.whole (omega arith) q (subst (λ y. has_pair rows y q ≡ true) (sym same) h)))
-    | inr other ↦ elim (before.raised p q h) [
+        (tells.whole (omega arith) (omega arith) q
+        (subst (λ y. has_pair rows y q ≡ true) (sym same) h)))
+    | inr other ↦ elim (before.raised p asked q h) [
       | inl d ↦ inl (tells.keeps p q d)
       | inr f ↦ inr (lowered_stays flags x p other f)
     ]
@@ -88,15 +107,16 @@ told_lowered n rows old new flags x news table before tells = record {
 }
 
 -- at the start nothing is told
-pub told_start : (n : ℕ) (old new : List (List Bool)) (flags raised : List Bool) (m : Bool)
-    (told : List (List Bool)) → IsPairStep n old flags new raised m
+pub told_start : (n : ℕ) (Asked : ℕ → Type 0) (old new : List (List Bool))
+    (flags raised : List Bool) (m : Bool) (told : List (List Bool))
+    → IsPairStep n old flags new raised m
     → ((p q : ℕ) → has_pair old p q ≡ false) → ((p q : ℕ) → has_pair told p q ≡ false)
-    → IsPairTable n told → n < length raised → IsRowTold n new (set raised n true) told
-told_start n old new flags raised m told step none nothing table less = record {
+    → IsPairTable n told → n < length raised → IsRowTold n Asked new (set raised n true) told
+told_start n Asked old new flags raised m told step none nothing table less = record {
   size = table.size;
   each = table.each;
   within = λ p q h. let e = nothing p q in absurd cc;
-  raised = λ p q h. elim (step.raises p q h) [
+  raised = λ p asked q h. elim (step.raises p q h) [
     | inl o ↦ let e = none p q in absurd cc
     | inr w ↦ inr (set_grows raised n p less w.0)
   ];
@@ -169,8 +189,8 @@ all_or A B (x ∷ xs) all =
           ]
     ]
 
-module _ (n : ℕ) (rows old new : List (List Bool)) (x : ℕ) (news : News)
-    (tells : IsTelling n rows old new x news) where
+module _ (n : ℕ) (numbers : List ℕ) (rows old new : List (List Bool)) (x : ℕ) (news : News)
+    (tells : IsTelling n numbers rows old new x news) where
   -- after a row is told
   served_told : (a : Action) → IsServed (λ q. ⊥) old rows a → IsServed (IsNews news) new rows a
   served_told a is = record {
@@ -309,7 +329,7 @@ lack_ready n rows flags a lack is out = inl record {
 
 -- one that is served is ready
 pub served_ready : (n : ℕ) (rows : List (List Bool)) (flags : List Bool)
-    (told : List (List Bool)) (a : Action) → IsRowTold n rows flags told
+    (told : List (List Bool)) (a : Action) → IsRowTold n (Contains a.pre) rows flags told
     → IsServed (λ q. ⊥) told rows a → HasItsPairs n rows flags a
 served_ready n rows flags told a is_told is =
     elim (quiet_or n flags a) [
@@ -318,7 +338,8 @@ served_ready n rows flags told a is_told is =
         both = λ pairs. is.add;
         other = λ q free pairs joined.
             elim (is.each q free (λ i d less.
-            elim (is_told.raised (get_or a.pre i d) q (joined.1 i d less)) [
+            elim (is_told.raised (get_or a.pre i d) (All-contains_itself a.pre i d less) q
+            (joined.1 i d less)) [
               | inl told ↦ told
               | inr up ↦ let e = quiet.pre i d less in absurd cc
             ])) [
@@ -329,29 +350,29 @@ served_ready n rows flags told a is_told is =
     ]
 
 -- it is served where all that it gives was put in
-pub given_served : (n : ℕ) (told old new : List (List Bool)) (flags : List Bool) (a : Action)
-    → IsPairTable n old → IsRowTold n old flags told → 0 < length a.pre → Grows old new
+pub given_served : (n : ℕ) (told old new : List (List Bool)) (a : Action) → IsPairTable n old
+    → Grows told old → 0 < length a.pre → Grows old new
     → HasPairsOf (has_pair old) a.pre → HasPairsOf (has_pair new) a.add
     → ((q : ℕ) → LeavesAlone a q → IsJoined (has_pair old) a.pre q
     → All (λ p. has_pair new p q ≡ true) a.add) → IsServed (λ q. ⊥) told new a
-given_served n told old new flags a table is_told some grows pre add other = record {
+given_served n told old new a table known some grows pre add other = record {
   pre = λ i d less j e below. grows (get_or a.pre i d) (get_or a.pre j e) (pre i d less j e below);
   add = add;
   each = λ q free all. inr (other q free (
-    table.whole (get_or a.pre 0 0) q (is_told.within (get_or a.pre 0 0) q (all 0 0 some)),
-    λ i d less. is_told.within (get_or a.pre i d) q (all i d less),
+    table.whole (get_or a.pre 0 0) q (known (get_or a.pre 0 0) q (all 0 0 some)),
+    λ i d less. known (get_or a.pre i d) q (all i d less),
   ));
 }
 
 -- and where that was done for the news
-pub followed_served : (n : ℕ) (told old new : List (List Bool)) (flags : List Bool) (a : Action)
-    (news : News) → IsRowTold n old flags told → Grows old new → news.many ≡ false
+pub followed_served : (told old new : List (List Bool)) (a : Action) (news : News)
+    → Grows told old → Grows old new → news.many ≡ false
     → IsServed (IsNews news) told old a
     → ((k : ℕ) → k < news.count → LeavesAlone a (get_or news.atoms.items k 0)
     → All (λ p. has_pair old p (get_or news.atoms.items k 0) ≡ true) a.pre
     → All (λ p. has_pair new p (get_or news.atoms.items k 0) ≡ true) a.add)
     → IsServed (λ q. ⊥) told new a
-followed_served n told old new flags a news is_told grows few is done = record {
+followed_served told old new a news known grows few is done = record {
   pre = λ i d less j e below. grows (get_or a.pre i d) (get_or a.pre j e)
       (is.pre i d less j e below);
   add = λ i d less j e below. grows (get_or a.add i d) (get_or a.add j e)
@@ -363,7 +384,7 @@ followed_served n told old new flags a news is_told grows few is done = record {
       | inr w ↦ inr (subst (λ y. All (λ p. has_pair new p y ≡ true) a.add) w.2
           (done w.0 w.1 (subst (LeavesAlone a) (sym w.2) free)
           (λ i d less. subst (λ y. has_pair old (get_or a.pre i d) y ≡ true) (sym w.2)
-          (is_told.within (get_or a.pre i d) q (all i d less)))))
+          (known (get_or a.pre i d) q (all i d less)))))
     ]
   ];
 }
@@ -405,13 +426,6 @@ before_end set list row column past before =
     (λ i less. All-from_zero (λ q. set (get_or list i 0) q ≡ true) list
     (λ j below. before.rows i j (omega arith) less below))
 
--- before the first place there is no pair
-pub before_none : (set : ℕ → ℕ → Bool) (list : List ℕ) → ArePairedBefore set list 0 0
-before_none set list = record {
-  rows = λ i j less within below. absurd (omega arith);
-  columns = λ j less below. absurd (omega arith);
-}
-
 -- one atom more is among the news
 pub news_more : (atoms : List ℕ) (count x k : ℕ) → count < length atoms → k < count + 1
     → ((k < count) × (get_or (set atoms count x) k 0 ≡ get_or atoms k 0))
@@ -421,53 +435,6 @@ news_more atoms count x k less below =
       | inl same ↦ inr (same, get_or-set_at atoms count k x 0 same less)
       | inr other ↦ inl (omega arith, get_or-set_other atoms count k x 0 other)
     ]
-
--- a row is told
-pub row_told : (n : ℕ) (rows told : List (List Bool)) (x : ℕ) (news : News) → IsPairTable n rows
-    → x < n → length told ≡ n → All (λ row. length row ≡ n) told → AreNewsBelow n news
-    → Grows told rows
-    → ((q : ℕ) → has_pair rows x q ≡ true → (has_pair told x q ≡ true) ⊎ IsNews news q)
-    → IsTelling n rows told (set told x (get_or rows x [])) x news
-row_told n rows told x news table less size each below subset found = record {
-  size = length-set told x (get_or rows x []) ∙ size;
-  each = λ i d within. elim (cases_eq i x) [
-    | inl same ↦
-        subst (λ (r : List Bool). length r ≡ n)
-        (sym (get_or-set_at told x i (get_or rows x []) d same in_told))
-        (table.each x [] (let rows_size = table.size in omega arith))
-    | inr other ↦
-        subst (λ (r : List Bool). length r ≡ n)
-        (sym (get_or-set_other told x i (get_or rows x []) d other))
-        (each i d (omega (arith, within, length-set told x (get_or rows x []))))
-  ];
-  below = below;
-  keeps = λ p q h. elim (cases_eq p x) [
-    | inl same ↦
-        subst (λ (r : List Bool). has_atom r q ≡ true)
-        (sym (get_or-set_at told x p (get_or rows x []) [] same in_told))
-        (subset x q (subst (λ y. has_pair told y q ≡ true) same h))
-    | inr other ↦
-        subst (λ (r : List Bool). has_atom r q ≡ true)
-        (sym (get_or-set_other told x p (get_or rows x []) [] other)) h
-  ];
-  whole = λ lt q h.
-      subst (λ (r : List Bool). has_atom r q ≡ true)
-      (sym (get_or-set_at told x x (get_or rows x []) [] refl in_told)) h;
-  fresh = λ p q h. elim (cases_eq p x) [
-    | inl same ↦
-        let here : has_pair rows x q ≡ true = subst (λ (r : List Bool). has_atom r q ≡ true)
-        (get_or-set_at told x p (get_or rows x []) [] same in_told) h in
-        elim (found q here) [
-          | inl before ↦ inl (subst (λ y. has_pair told y q ≡ true) (sym same) before)
-          | inr is ↦ inr (same, here, is)
-        ]
-    | inr other ↦ inl (subst (λ (r : List Bool). has_atom r q ≡ true)
-        (get_or-set_other told x p (get_or rows x []) [] other) h)
-  ];
-}
-  where
-    in_told : x < length told
-    in_told = omega arith
 
 -- the next flag is one of the flags
 pub raised_within : (flags : List Bool) (from : ℕ) (next : Option ℕ)
@@ -513,19 +480,6 @@ fresh_more row told atoms count from x less before next q below held =
       ]
     ]
 
--- and where there is none more
-pub fresh_end : (row told : List Bool) (atoms : List ℕ) (count from : ℕ)
-    → ((q : ℕ) → q < from → has_atom row q ≡ true → (has_atom told q ≡ true)
-    ⊎ ((k : ℕ) × (k < count) × (get_or atoms k 0 ≡ q)))
-    → IsNext (λ p. has_atom row p && not (has_atom told p)) from None
-    → (q : ℕ) → has_atom row q ≡ true → (has_atom told q ≡ true)
-    ⊎ ((k : ℕ) × (k < count) × (get_or atoms k 0 ≡ q))
-fresh_end row told atoms count from before next q held =
-    elim (cases_lt q from) [
-      | inl lt ↦ before q lt held
-      | inr ge ↦ inl (known_from row told q held (next q ge))
-    ]
-
 -- what is at a place of a list with one item written
 pub got_other : {X : Type 0} (xs : List X) (i k : ℕ) (y : X) → (k ≡ i → ⊥)
     → slice_get (set xs i y) k ≡ slice_get xs k
@@ -561,19 +515,6 @@ stand_new actions told rows standing size new k a s is at =
     let e : S.New ≡ s = let f = new k (slice_get_within actions k a is) in cc in
     subst (StandsSo (λ q. ⊥) told rows a) e tt
 
--- past the atoms nothing is told
-pub told_past : (n : ℕ) (rows told : List (List Bool)) (x : ℕ) (news : News) → n ≤ x
-    → news.count ≡ 0 → length told ≡ n → All (λ row. length row ≡ n) told
-    → IsTelling n rows told told x news
-told_past n rows told x news past none size each = record {
-  size = size;
-  each = each;
-  below = record { count = omega arith; below = λ k less. absurd (omega arith) };
-  keeps = λ p q h. h;
-  whole = λ less. absurd (omega arith);
-  fresh = λ p q h. inl h;
-}
-
 -- the atoms of a pair that is missing are of the list
 pub lack_below : (n : ℕ) (set : ℕ → ℕ → Bool) (list : List ℕ) (lack : Lack) → AreBelow n list
     → IsLack set list lack → (lack.first < n) × (lack.second < n)
@@ -595,23 +536,3 @@ pub row_size : (n : ℕ) (rows : List (List Bool)) (row : List Bool) (p : ℕ) �
 row_size n rows row p table less at =
     let size = table.size in
     ap (λ (r : List Bool). length r) at ∙ table.each p row (omega arith)
-
--- how an action stood that stands so
-pub stood : (But : ℕ → Type 0) (told rows : List (List Bool)) (a : Action)
-    (standing : List ActionStanding) (k : ℕ) (r s : ActionStanding) → k < length standing
-    → r ≡ get_or standing k r → r ≡ s
-    → ((t : ActionStanding) → slice_get standing k ≡ Some t → StandsSo But told rows a t)
-    → StandsSo But told rows a s
-stood But told rows a standing k r s less at same all =
-    subst (StandsSo But told rows a) same (all r (slice_get_at standing k r less at))
-
-pub stood_same : (standing : List ActionStanding) (k : ℕ) (r s t : ActionStanding) → k < length standing
-    → r ≡ get_or standing k r → r ≡ s → slice_get standing k ≡ Some t → s ≡ t
-stood_same standing k r s t less at same is =
-    let here = slice_get_at standing k r less at in
-    let e : r ≡ t = cc in sym same ∙ e
-
--- a pair that is missing
-pub lack_same : (s : ActionStanding) (lack other : Lack) → S.Lacks lack ≡ s → s ≡ S.Lacks other
-    → lack ≡ other
-lack_same s lack other e f = let g = e ∙ f in cc

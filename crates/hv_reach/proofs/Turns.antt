@@ -18,13 +18,11 @@ use Rattle.hv_reach.specs.Index.{IsIn, IsActionIndex}
 use Rattle.hv_reach.specs.Reached.{has_pair}
 use Rattle.hv_reach.specs.Working.Table.{HaveTheirPairs, HaveTheirPairsBut, IsPairStep, HasItsPairs}
 use Rattle.hv_reach.specs.Working.Table.{IsPairTable, IsTrigger, IsTurn, KeepAllPairs}
-use Rattle.hv_reach.specs.Working.Table.{missing_cells}
+use Rattle.hv_reach.specs.Working.Table.{PairsGrowWithin, missing_cells}
 
-pub turn_both : (n : ℕ) (a b c : List (List Bool)) (f g h : List Bool) (m k : Bool)
-    → IsTurn n a f b g m → IsTurn n b g c h k → IsTurn n a f c h (m || k)
-turn_both n a b c f g h m k s t = record {
-  table = t.table;
-  size = t.size ∙ s.size;
+pub turn_both : (actions : List Action) (a b c : List (List Bool)) (f g h : List Bool) (m k : Bool)
+    → IsTurn actions a f b g m → IsTurn actions b g c h k → IsTurn actions a f c h (m || k)
+turn_both actions a b c f g h m k s t = record {
   grows = λ p q e. t.grows p q (s.grows p q e);
   still = λ e x d. let w = or_parts m k e in s.still w.0 x (t.still w.1 x d);
   fewer = let u = s.fewer in let v = t.fewer in omega arith;
@@ -34,6 +32,7 @@ turn_both n a b c f g h m k s t = record {
             omega arith
         | inr o ↦ let z = t.falls o in omega arith
       ];
+  least = λ r even keeps within. t.least r even keeps (s.least r even keeps within);
 }
 
 -- a flag that is raised after one was lowered is another one, and was raised before
@@ -59,16 +58,16 @@ lowered_stays flags x y other h =
     has_atom-set flags x y false (within_state flags y h)
     ∙ (cond-false (eqb x y) false (has_atom flags y) (ne_eqb x y other) ∙ h)
 
-pub turn_from_step : (n : ℕ) (old new : List (List Bool)) (flags raised : List Bool) (x : ℕ)
-    (m : Bool) → IsPairStep n old (set flags x false) new raised m
-    → IsTurn n old flags new raised m
-turn_from_step n old new flags raised x m step = record {
-  table = step.table;
-  size = step.size ∙ length-set flags x false;
+pub turn_from_step : (n : ℕ) (actions : List Action) (old new : List (List Bool))
+    (flags raised : List Bool) (x : ℕ) (m : Bool)
+    → IsPairStep n old (set flags x false) new raised m
+    → PairsGrowWithin (KeepAllPairs actions) old new → IsTurn actions old flags new raised m
+turn_from_step n actions old new flags raised x m step least = record {
   grows = step.grows;
   still = λ e y h. (lowered_other flags x y (step.still e y h)).0;
   fewer = step.fewer;
   falls = step.falls;
+  least = least;
 }
 
 pub lowered_after : (n : ℕ) (old new : List (List Bool)) (flags raised : List Bool) (x : ℕ)
@@ -133,12 +132,22 @@ ready_more n actions numbers i x old new flags raised m b e table step before at
           | inr differ ↦ let f = left.1 in omega arith
         ]
 
-pub quiet_more : (n : ℕ) (old new : List (List Bool)) (flags raised : List Bool) (x : ℕ)
-    (m k : Bool) → IsTurn n old flags new raised k
+-- when none is left
+pub ready_end : (numbers : List ℕ) (i n : ℕ) (actions : List Action) (rows : List (List Bool))
+    (flags : List Bool) → length numbers ≤ i → HaveTheirPairsBut numbers i n actions rows flags
+    → HaveTheirPairs n actions rows flags
+ready_end numbers i n actions rows flags past all k a is =
+    elim (all k a is) [
+      | inl ready ↦ ready
+      | inr w ↦ let f = w.1 in let g = w.2 in absurd (omega arith)
+    ]
+
+pub quiet_more : (actions : List Action) (old new : List (List Bool)) (flags raised : List Bool)
+    (x : ℕ) (m k : Bool) → IsTurn actions old flags new raised k
     → (m ≡ false → (y : ℕ) → y < x → has_atom flags y ≡ false)
     → (k ≡ false → has_atom raised x ≡ false)
     → (m || k) ≡ false → (y : ℕ) → y < x + 1 → has_atom raised y ≡ false
-quiet_more n old new flags raised x m k turn before here e y less =
+quiet_more actions old new flags raised x m k turn before here e y less =
     let w = or_parts m k e in
     elim (cases_lt y x) [
       | inl lt ↦
@@ -188,8 +197,8 @@ taken_more list i first old before q h =
     )
 
 -- a round with a turn that put pairs in leaves fewer missing, and one without is the last
-pub work_falls : (n : ℕ) (a b c : List (List Bool)) (f g h : List Bool) (m k : Bool)
-    → IsTurn n a f b g m → IsTurn n b g c h k
+pub work_falls : (actions : List Action) (a b c : List (List Bool)) (f g h : List Bool)
+    (m k : Bool) → IsTurn actions a f b g m → IsTurn actions b g c h k
     → missing_cells c + cond k 1 0 < missing_cells a + 1
-work_falls n a b c f g h m true s t = let u = s.fewer in let v = t.falls refl in omega arith
-work_falls n a b c f g h m false s t = let u = s.fewer in let v = t.fewer in omega arith
+work_falls actions a b c f g h m true s t = let u = s.fewer in let v = t.falls refl in omega arith
+work_falls actions a b c f g h m false s t = let u = s.fewer in let v = t.fewer in omega arith

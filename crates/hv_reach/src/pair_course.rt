@@ -13,8 +13,8 @@ ghost use Rattle.std.specs.Prelude.{MatchOption, slice_get, slice_index};
 ghost use Rattle.std.specs.List.{All};
 ghost use Rattle.std.specs.List.Sorted.{IsStrictlyIncreasing};
 ghost use Rattle.hv_task.specs.State.{AreBelow, has_atom};
-ghost use Rattle.hv_reach.specs.Reached.{HasPairsOf, has_pair};
-ghost use Rattle.hv_reach.specs.Working.Course.{AreNewsBelow, ArePairedBefore, IsLack, IsNews};
+ghost use Rattle.hv_reach.specs.Reached.{has_pair};
+ghost use Rattle.hv_reach.specs.Working.Course.{AreNewsBelow, ArePairedBefore, IsFirstLack, IsNews};
 ghost use Rattle.hv_reach.specs.Working.Course.{IsSized, IsTelling};
 ghost use Rattle.hv_reach.specs.Working.Table.{IsPairTable};
 ghost use Rattle.hv_reach.specs.declared.pair_course.ActionStanding.TheVariants as S;
@@ -109,9 +109,7 @@ pub(crate) fn next_lack(
     requires below { AreBelow atoms list.now }
     requires rises { IsStrictlyIncreasing list.now }
     requires before { ArePairedBefore (has_pair rows.now.items) list.now row column }
-    ensures { MatchOption result (HasPairsOf (has_pair rows.now.items) list.now)
-        (λ lack. IsLack (has_pair rows.now.items) list.now lack
-        × (has_pair rows.now.items lack.first lack.second ≡ false)) }
+    ensures { IsFirstLack (has_pair rows.now.items) list.now result }
 {
     let mut from = column as usize;
     for place in row as usize..list.len() {
@@ -150,19 +148,27 @@ fn next_missing(row: &State, list: &[u32], from: usize) -> Option<usize>
     None
 }
 
-/// Notes that actions are told of the row of this atom, and what is new in it. Past the atoms there
-/// is no row, and nothing is new.
-pub(crate) fn tell(atoms: u32, rows: &Vec<State>, told: &mut Vec<State>, news: &mut News, atom: u32)
+/// Notes that these actions are told of the row of this atom, and what is new in it. Past the atoms
+/// there is no row, and where there are no actions nothing is told: nothing is new then.
+pub(crate) fn tell(
+    atoms: u32,
+    rows: &Vec<State>,
+    told: &mut Vec<State>,
+    news: &mut News,
+    atom: u32,
+    actions: &[u32],
+)
     requires table { IsPairTable atoms rows.now.items }
     requires size { length told.old.items ≡ atoms }
     requires each { All (λ row. length row ≡ atoms) told.old.items }
     requires within { (p q : ℕ) → has_pair told.old.items p q ≡ true
         → has_pair rows.now.items p q ≡ true }
-    ensures { IsTelling atoms rows.now.items told.old.items told.new.items atom news.new }
+    ensures { IsTelling atoms actions.now rows.now.items told.old.items told.new.items atom
+        news.new }
 {
     news.many = false;
     news.count = 0;
-    if atom >= atoms {
+    if atom >= atoms || actions.len() == 0 {
         return;
     }
     list_news(&rows[atom as usize], &told[atom as usize], news);

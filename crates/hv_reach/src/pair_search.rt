@@ -10,9 +10,9 @@ ghost use Rattle.hv_task.specs.State.{AreBelow, has_atom};
 ghost use Rattle.hv_task.specs.Strips.{atoms};
 ghost use Rattle.hv_reach.specs.Reached.{has_pair};
 ghost use Rattle.hv_reach.specs.Index.{IsTaskIndex};
-ghost use Rattle.hv_reach.specs.Working.Course.{AreNewsBelow, IsCourse, IsNews, IsSized, IsRowTold};
-ghost use Rattle.hv_reach.specs.Working.Course.{StandAllBut};
-ghost use Rattle.hv_reach.specs.Working.Table.{HaveTheirPairs, HaveTheirPairsBut, IsPairStep};
+ghost use Rattle.hv_reach.specs.Working.Course.{AreNewsBelow, IsAskedFor, IsNews, IsPairSearch};
+ghost use Rattle.hv_reach.specs.Working.Course.{IsRowTold, IsSized, StandAllBut};
+ghost use Rattle.hv_reach.specs.Working.Table.{HaveTheirPairsBut, IsPairStep};
 ghost use Rattle.hv_reach.specs.Working.Table.{IsPairTable, IsTurn, KeepAllPairs};
 ghost use Rattle.hv_reach.specs.Working.Table.{PairsGrowWithin};
 
@@ -31,11 +31,7 @@ pub(crate) fn close(
     course: &mut Course,
 )
     requires index { IsTaskIndex task.now index.now.items }
-    requires table { IsPairTable (atoms task.now) rows.old.items }
-    requires flags { length flags.old ≡ atoms task.now + 1 }
-    requires course { IsCourse (atoms task.now) task.now.actions rows.old.items flags.old
-        course.old }
-    requires ready { HaveTheirPairs (atoms task.now) task.now.actions rows.old.items flags.old }
+    requires search { IsPairSearch task.now rows.old.items flags.old course.old }
     ensures table { IsPairTable (atoms task.now) rows.new.items }
     ensures grows { (p q : ℕ) → has_pair rows.old.items p q ≡ true
         → has_pair rows.new.items p q ≡ true }
@@ -58,17 +54,10 @@ fn settle(
     course: &mut Course,
 ) -> bool
     requires index { IsTaskIndex task.now index.now.items }
-    requires table { IsPairTable (atoms task.now) rows.old.items }
-    requires flags { length flags.old ≡ atoms task.now + 1 }
-    requires course { IsCourse (atoms task.now) task.now.actions rows.old.items flags.old
-        course.old }
-    requires ready { HaveTheirPairs (atoms task.now) task.now.actions rows.old.items flags.old }
-    ensures turn { IsTurn (atoms task.now) rows.old.items flags.old
+    requires search { IsPairSearch task.now rows.old.items flags.old course.old }
+    ensures turn { IsTurn task.now.actions rows.old.items flags.old
         rows.new.items flags.new result }
-    ensures ready { HaveTheirPairs (atoms task.now) task.now.actions rows.new.items flags.new }
-    ensures course { IsCourse (atoms task.now) task.now.actions rows.new.items flags.new
-        course.new }
-    ensures least { PairsGrowWithin (KeepAllPairs task.now.actions) rows.old.items rows.new.items }
+    ensures search { IsPairSearch task.now rows.new.items flags.new course.new }
 {
     let mut moved = false;
     for round in 0..task.atoms() {
@@ -92,17 +81,10 @@ fn sweep_short(
     course: &mut Course,
 ) -> bool
     requires index { IsTaskIndex task.now index.now.items }
-    requires table { IsPairTable (atoms task.now) rows.old.items }
-    requires flags { length flags.old ≡ atoms task.now + 1 }
-    requires course { IsCourse (atoms task.now) task.now.actions rows.old.items flags.old
-        course.old }
-    requires ready { HaveTheirPairs (atoms task.now) task.now.actions rows.old.items flags.old }
-    ensures turn { IsTurn (atoms task.now) rows.old.items flags.old
+    requires search { IsPairSearch task.now rows.old.items flags.old course.old }
+    ensures turn { IsTurn task.now.actions rows.old.items flags.old
         rows.new.items flags.new result }
-    ensures ready { HaveTheirPairs (atoms task.now) task.now.actions rows.new.items flags.new }
-    ensures course { IsCourse (atoms task.now) task.now.actions rows.new.items flags.new
-        course.new }
-    ensures least { PairsGrowWithin (KeepAllPairs task.now.actions) rows.old.items rows.new.items }
+    ensures search { IsPairSearch task.now rows.new.items flags.new course.new }
 {
     let mut moved = false;
     let mut from = 0;
@@ -128,17 +110,10 @@ fn turn_short(
 ) -> bool
     requires flag { flag ≤ atoms task.now }
     requires index { IsTaskIndex task.now index.now.items }
-    requires table { IsPairTable (atoms task.now) rows.old.items }
-    requires flags { length flags.old ≡ atoms task.now + 1 }
-    requires course { IsCourse (atoms task.now) task.now.actions rows.old.items flags.old
-        course.old }
-    requires ready { HaveTheirPairs (atoms task.now) task.now.actions rows.old.items flags.old }
-    ensures turn { IsTurn (atoms task.now) rows.old.items flags.old
+    requires search { IsPairSearch task.now rows.old.items flags.old course.old }
+    ensures turn { IsTurn task.now.actions rows.old.items flags.old
         rows.new.items flags.new result }
-    ensures ready { HaveTheirPairs (atoms task.now) task.now.actions rows.new.items flags.new }
-    ensures course { IsCourse (atoms task.now) task.now.actions rows.new.items flags.new
-        course.new }
-    ensures least { PairsGrowWithin (KeepAllPairs task.now.actions) rows.old.items rows.new.items }
+    ensures search { IsPairSearch task.now rows.new.items flags.new course.new }
 {
     let few = 16 * task.actions() / (task.atoms() + 1);
     if index[flag as usize].len() > few as usize {
@@ -157,17 +132,10 @@ fn chase(
     course: &mut Course,
 ) -> bool
     requires index { IsTaskIndex task.now index.now.items }
-    requires table { IsPairTable (atoms task.now) rows.old.items }
-    requires flags { length flags.old ≡ atoms task.now + 1 }
-    requires course { IsCourse (atoms task.now) task.now.actions rows.old.items flags.old
-        course.old }
-    requires ready { HaveTheirPairs (atoms task.now) task.now.actions rows.old.items flags.old }
-    ensures turn { IsTurn (atoms task.now) rows.old.items flags.old
+    requires search { IsPairSearch task.now rows.old.items flags.old course.old }
+    ensures turn { IsTurn task.now.actions rows.old.items flags.old
         rows.new.items flags.new result }
-    ensures ready { HaveTheirPairs (atoms task.now) task.now.actions rows.new.items flags.new }
-    ensures course { IsCourse (atoms task.now) task.now.actions rows.new.items flags.new
-        course.new }
-    ensures least { PairsGrowWithin (KeepAllPairs task.now.actions) rows.old.items rows.new.items }
+    ensures search { IsPairSearch task.now rows.new.items flags.new course.new }
 {
     let mut moved = false;
     for round in 0..task.atoms() {
@@ -220,19 +188,12 @@ fn sweep(
     course: &mut Course,
 ) -> bool
     requires index { IsTaskIndex task.now index.now.items }
-    requires table { IsPairTable (atoms task.now) rows.old.items }
-    requires flags { length flags.old ≡ atoms task.now + 1 }
-    requires course { IsCourse (atoms task.now) task.now.actions rows.old.items flags.old
-        course.old }
-    requires ready { HaveTheirPairs (atoms task.now) task.now.actions rows.old.items flags.old }
-    ensures turn { IsTurn (atoms task.now) rows.old.items flags.old
+    requires search { IsPairSearch task.now rows.old.items flags.old course.old }
+    ensures turn { IsTurn task.now.actions rows.old.items flags.old
         rows.new.items flags.new result }
     ensures quiet { result ≡ false → (x : ℕ) → x ≤ atoms task.now
         → has_atom flags.new x ≡ false }
-    ensures ready { HaveTheirPairs (atoms task.now) task.now.actions rows.new.items flags.new }
-    ensures course { IsCourse (atoms task.now) task.now.actions rows.new.items flags.new
-        course.new }
-    ensures least { PairsGrowWithin (KeepAllPairs task.now.actions) rows.old.items rows.new.items }
+    ensures search { IsPairSearch task.now rows.new.items flags.new course.new }
 {
     let mut moved = false;
     for flag in 0..task.atoms() + 1 {
@@ -252,26 +213,26 @@ pub(crate) fn turn(
 ) -> bool
     requires flag { flag ≤ atoms task.now }
     requires index { IsTaskIndex task.now index.now.items }
-    requires table { IsPairTable (atoms task.now) rows.old.items }
-    requires flags { length flags.old ≡ atoms task.now + 1 }
-    requires course { IsCourse (atoms task.now) task.now.actions rows.old.items flags.old
-        course.old }
-    requires ready { HaveTheirPairs (atoms task.now) task.now.actions rows.old.items flags.old }
-    ensures turn { IsTurn (atoms task.now) rows.old.items flags.old
+    requires search { IsPairSearch task.now rows.old.items flags.old course.old }
+    ensures turn { IsTurn task.now.actions rows.old.items flags.old
         rows.new.items flags.new result }
     ensures lowered { result ≡ false → has_atom flags.new flag ≡ false }
-    ensures ready { HaveTheirPairs (atoms task.now) task.now.actions rows.new.items flags.new }
-    ensures course { IsCourse (atoms task.now) task.now.actions rows.new.items flags.new
-        course.new }
-    ensures least { PairsGrowWithin (KeepAllPairs task.now.actions) rows.old.items rows.new.items }
+    ensures search { IsPairSearch task.now rows.new.items flags.new course.new }
 {
     if !flags.has(flag) {
         return false;
     }
     flags.set(flag, false);
-    tell(task.atoms(), rows, &mut course.told, &mut course.news, flag);
-    let row = &index[flag as usize];
-    wake(task, rows, flags, course, row.as_slice())
+    let row = index[flag as usize].as_slice();
+    tell(
+        task.atoms(),
+        rows,
+        &mut course.told,
+        &mut course.news,
+        flag,
+        row,
+    );
+    wake(task, rows, flags, course, row)
 }
 
 // Visits each of these actions, and says whether a pair is new.
@@ -285,7 +246,8 @@ fn wake(
     requires numbers { AreBelow (length task.now.actions) numbers.now }
     requires table { IsPairTable (atoms task.now) rows.old.items }
     requires flags { length flags.old ≡ atoms task.now + 1 }
-    requires told { IsRowTold (atoms task.now) rows.old.items flags.old course.old.told.items }
+    requires told { IsRowTold (atoms task.now) (IsAskedFor task.now.actions)
+        rows.old.items flags.old course.old.told.items }
     requires news { AreNewsBelow (atoms task.now) course.old.news }
     requires sized { IsSized (atoms task.now) (length task.now.actions) course.old }
     requires stand { StandAllBut numbers.now 0 (IsNews course.old.news) task.now.actions
@@ -294,13 +256,12 @@ fn wake(
         task.now.actions rows.old.items flags.old }
     ensures step { IsPairStep (atoms task.now) rows.old.items flags.old
         rows.new.items flags.new result }
-    ensures ready { HaveTheirPairs (atoms task.now) task.now.actions rows.new.items flags.new }
-    ensures course { IsCourse (atoms task.now) task.now.actions rows.new.items flags.new
-        course.new }
+    ensures search { IsPairSearch task.now rows.new.items flags.new course.new }
     ensures least { PairsGrowWithin (KeepAllPairs task.now.actions) rows.old.items rows.new.items }
 {
     let mut moved = false;
     for number in numbers {
+        let standing = course.standing[*number as usize];
         moved |= visit(
             task.atoms(),
             rows,
@@ -308,6 +269,7 @@ fn wake(
             course,
             *number,
             task.action(*number),
+            standing,
         );
     }
     moved

@@ -5,16 +5,14 @@
 //! into the rows of what it adds. Later ones do so where much is new in a row, and else ask for
 //! each atom that is new whether it is in with the whole precondition.
 
-ghost use Rattle.std.specs.Prelude.{◌≡◌, ◌<◌, ◌+◌, ℕ, true, false, length, Some, MatchOption};
+ghost use Rattle.std.specs.Prelude.{◌≡◌, ◌<◌, ◌+◌, ℕ, true, false, length, Some};
 ghost use Rattle.std.specs.Prelude.{slice_get, slice_index};
-ghost use Rattle.std.specs.List.{All};
-ghost use Rattle.std.specs.List.Sorted.{IsStrictlyIncreasing};
+ghost use Rattle.std.specs.List.{All, Contains};
 ghost use Rattle.hv_task.specs.declared.action.Action.{Action};
-ghost use Rattle.hv_task.specs.State.{AreBelow};
 ghost use Rattle.hv_task.specs.Strips.{IsOver};
 ghost use Rattle.hv_reach.specs.Reached.{HasPairsOf, LeavesAlone, has_pair};
-ghost use Rattle.hv_reach.specs.Working.Course.{AreNewsBelow, ArePairedBefore, IsGlance, IsKeptBut};
-ghost use Rattle.hv_reach.specs.Working.Course.{IsLack, IsNews, IsRowTold, StandsSo};
+ghost use Rattle.hv_reach.specs.Working.Course.{AreNewsBelow, IsFirstLack, IsGlance, IsKeptBut};
+ghost use Rattle.hv_reach.specs.Working.Course.{IsNews, IsRowTold, StandsSo};
 ghost use Rattle.hv_reach.specs.Working.Table.{HasItsPairs, IsJoined, IsPairStep, IsPairTable};
 ghost use Rattle.hv_reach.specs.Working.Table.{KeepsPairs, PairsGrowWithin};
 ghost use Rattle.hv_reach.specs.declared.pair_course.Lack.{Lack};
@@ -34,16 +32,18 @@ pub(crate) fn visit(
     course: &mut Course,
     number: u32,
     action: &Action,
+    standing: ActionStanding,
 ) -> bool
     requires table { IsPairTable atoms rows.old.items }
     requires flags { length flags.old ≡ atoms + 1 }
     requires over { IsOver atoms action.now }
-    requires told { IsRowTold atoms rows.old.items flags.old course.old.told.items }
+    requires told { IsRowTold atoms (Contains action.now.pre) rows.old.items flags.old
+        course.old.told.items }
     requires news { AreNewsBelow atoms course.old.news }
-    requires number { number < length course.old.standing.items }
     requires mask { length course.old.mask ≡ atoms }
-    requires stands { (s : ActionStanding) → slice_get course.old.standing.items number ≡ Some s
-        → StandsSo (IsNews course.old.news) course.old.told.items rows.old.items action.now s }
+    requires standing { slice_get course.old.standing.items number ≡ Some standing }
+    requires stands { StandsSo (IsNews course.old.news) course.old.told.items rows.old.items
+        action.now standing }
     ensures step { IsPairStep atoms rows.old.items flags.old rows.new.items flags.new result }
     ensures ready { HasItsPairs atoms rows.new.items flags.new action.now }
     ensures kept { IsKeptBut number course.old course.new }
@@ -52,13 +52,17 @@ pub(crate) fn visit(
     ensures least { PairsGrowWithin (λ set. KeepsPairs set action.now)
         rows.old.items rows.new.items }
 {
-    match course.standing[number as usize] {
-        ActionStanding::New => enter(atoms, rows, flags, course, number, action),
-        ActionStanding::Lacks(lack) => {
-            if !rows[lack.first as usize].has(lack.second) {
+    match standing {
+        ActionStanding::New => {
+            let lack = next_lack(atoms, rows, action.pre.as_slice(), 0, 0);
+            enter(atoms, rows, flags, course, number, action, lack)
+        }
+        ActionStanding::Lacks(old) => {
+            if !rows[old.first as usize].has(old.second) {
                 return false;
             }
-            enter(atoms, rows, flags, course, number, action)
+            let lack = next_lack(atoms, rows, action.pre.as_slice(), old.row, old.column);
+            enter(atoms, rows, flags, course, number, action, lack)
         }
         ActionStanding::Ready(glance) => {
             if course.news.many {
@@ -69,8 +73,7 @@ pub(crate) fn visit(
     }
 }
 
-// Looks for a pair that the action lacks, on from where it stands, and where there is none, puts in
-// what it gives.
+// Notes the pair that the action lacks, or where it lacks none, puts in what it gives.
 fn enter(
     atoms: u32,
     rows: &mut Vec<State>,
@@ -78,16 +81,16 @@ fn enter(
     course: &mut Course,
     number: u32,
     action: &Action,
+    lack: Option<Lack>,
 ) -> bool
     requires table { IsPairTable atoms rows.old.items }
     requires flags { length flags.old ≡ atoms + 1 }
     requires over { IsOver atoms action.now }
-    requires told { IsRowTold atoms rows.old.items flags.old course.old.told.items }
+    requires told { (p q : ℕ) → has_pair course.old.told.items p q ≡ true
+        → has_pair rows.old.items p q ≡ true }
     requires number { number < length course.old.standing.items }
     requires mask { length course.old.mask ≡ atoms }
-    requires before { (lack : Lack)
-        → slice_get course.old.standing.items number ≡ Some (S.Lacks lack)
-        → ArePairedBefore (has_pair rows.old.items) action.now.pre lack.row lack.column }
+    requires lack { IsFirstLack (has_pair rows.old.items) action.now.pre lack }
     ensures step { IsPairStep atoms rows.old.items flags.old rows.new.items flags.new result }
     ensures ready { HasItsPairs atoms rows.new.items flags.new action.now }
     ensures kept { IsKeptBut number course.old course.new }
@@ -96,34 +99,16 @@ fn enter(
     ensures least { PairsGrowWithin (λ set. KeepsPairs set action.now)
         rows.old.items rows.new.items }
 {
-    let list = action.pre.as_slice();
-    match lack_after(atoms, rows, list, course.standing[number as usize]) {
+    match lack {
         Some(lack) => {
             course.standing[number as usize] = ActionStanding::Lacks(lack);
             false
         }
         None => {
             let moved = give(atoms, rows, flags, &mut course.mask, action);
-            course.standing[number as usize] = lacking_none(list);
+            course.standing[number as usize] = lacking_none(action.pre.as_slice());
             moved
         }
-    }
-}
-
-// The first pair of these atoms that is missing: those before the place of this one aren't.
-fn lack_after(atoms: u32, rows: &Vec<State>, list: &[u32], standing: ActionStanding) -> Option<Lack>
-    requires table { IsPairTable atoms rows.now.items }
-    requires below { AreBelow atoms list.now }
-    requires rises { IsStrictlyIncreasing list.now }
-    requires before { (lack : Lack) → standing ≡ S.Lacks lack
-        → ArePairedBefore (has_pair rows.now.items) list.now lack.row lack.column }
-    ensures { MatchOption result (HasPairsOf (has_pair rows.now.items) list.now)
-        (λ lack. IsLack (has_pair rows.now.items) list.now lack
-        × (has_pair rows.now.items lack.first lack.second ≡ false)) }
-{
-    match standing {
-        ActionStanding::Lacks(lack) => next_lack(atoms, rows, list, lack.row, lack.column),
-        _ => next_lack(atoms, rows, list, 0, 0),
     }
 }
 

@@ -1,10 +1,11 @@
 -- What a search for reached pairs knows: of each row what actions were told of it, and of each
 -- action how it stands.
-use Rattle.std.specs.Prelude.{◌≡◌, ◌<◌, ◌≤◌, ◌⊎◌, ℕ, Bool, true, List, length, Some}
-use Rattle.std.specs.Prelude.{slice_get, slice_index, ⊤}
+use Rattle.std.specs.Prelude.{◌≡◌, ◌+◌, ◌<◌, ◌≤◌, ◌⊎◌, ℕ, Bool, true, false, List, length, Some}
+use Rattle.std.specs.Prelude.{MatchOption, Option, slice_get, slice_index, ⊤}
 use Rattle.std.specs.List.{All, Contains}
 use Rattle.hv_task.specs.declared.action.Action.{Action}
 use Rattle.hv_task.specs.State.{has_atom}
+use Rattle.hv_task.specs.Strips.{Strips, atoms}
 use Rattle.hv_reach.specs.declared.pair_course.Course.{Course}
 use Rattle.hv_reach.specs.declared.pair_course.Glance.{Glance}
 use Rattle.hv_reach.specs.declared.pair_course.Lack.{Lack}
@@ -13,6 +14,7 @@ use Rattle.hv_reach.specs.declared.pair_course.ActionStanding.{ActionStanding}
 use Rattle.hv_reach.specs.declared.pair_course.ActionStanding.TheVariants as S
 use Rattle.hv_reach.specs.Reached.{HasPairsOf, LeavesAlone, has_pair}
 use Rattle.hv_reach.specs.Working.Index.{IsInRest}
+use Rattle.hv_reach.specs.Working.Table.{HaveTheirPairs, IsPairTable}
 
 -- the pairs of a list before a place are in the set: those of the rows before it, and in its row
 -- those of the columns before it
@@ -29,6 +31,11 @@ pub record IsLack (set : ℕ → ℕ → Bool) (list : List ℕ) (lack : Lack) :
   pub first : slice_index list lack.row ≡ lack.first
   pub second : slice_index list lack.column ≡ lack.second
   pub before : ArePairedBefore set list lack.row lack.column
+
+-- the lack is the first pair of the list that isn't in the set, or there is none
+abbrev pub IsFirstLack : (ℕ → ℕ → Bool) → List ℕ → Option Lack → Type 0
+IsFirstLack set list found = MatchOption found (HasPairsOf set list)
+    (λ lack. IsLack set list lack × (set lack.first lack.second ≡ false))
 
 -- the atom is among the news, or these don't say which atoms are
 abbrev pub IsNews : News → ℕ → Type 0
@@ -76,23 +83,30 @@ StandAllBut numbers from But actions told rows standing =
     → StandsSo (λ q. ⊥) told rows a s
     ⊎ (IsInRest numbers from k × StandsSo But told rows a s)
 
--- what was told are pairs of the table, and a row that has more has its flag raised
-pub record IsRowTold (n : ℕ) (rows : List (List Bool)) (flags : List Bool)
+-- an action has the atom in its precondition
+abbrev pub IsAskedFor : List Action → ℕ → Type 0
+IsAskedFor actions p = (k : ℕ) × (a : Action) × (slice_get actions k ≡ Some a) × Contains a.pre p
+
+-- what was told are pairs of the table, and a row that has more has its flag raised, if it is that
+-- of an atom which is asked for
+pub record IsRowTold (n : ℕ) (Asked : ℕ → Type 0) (rows : List (List Bool)) (flags : List Bool)
     (told : List (List Bool)) : Type 0 where
   pub size : length told ≡ n
   pub each : All (λ row. length row ≡ n) told
   pub within : (p q : ℕ) → has_pair told p q ≡ true → has_pair rows p q ≡ true
-  pub raised : (p q : ℕ) → has_pair rows p q ≡ true
+  pub raised : (p : ℕ) → Asked p → (q : ℕ) → has_pair rows p q ≡ true
       → (has_pair told p q ≡ true) ⊎ (has_atom flags p ≡ true)
 
--- a row of the table was told, and what was new in it are the news
-pub record IsTelling (n : ℕ) (rows old new : List (List Bool)) (x : ℕ) (news : News)
-    : Type 0 where
+-- these actions, if there are some, were told of a row of the table, and what was new in it are the
+-- news
+pub record IsTelling (n : ℕ) (numbers : List ℕ) (rows old new : List (List Bool)) (x : ℕ)
+    (news : News) : Type 0 where
   pub size : length new ≡ n
   pub each : All (λ row. length row ≡ n) new
   pub below : AreNewsBelow n news
   pub keeps : (p q : ℕ) → has_pair old p q ≡ true → has_pair new p q ≡ true
-  pub whole : x < n → (q : ℕ) → has_pair rows x q ≡ true → has_pair new x q ≡ true
+  pub whole : x < n → 0 < length numbers → (q : ℕ) → has_pair rows x q ≡ true
+      → has_pair new x q ≡ true
   pub fresh : (p q : ℕ) → has_pair new p q ≡ true
       → (has_pair old p q ≡ true) ⊎ ((p ≡ x) × (has_pair rows x q ≡ true) × IsNews news q)
 
@@ -103,11 +117,14 @@ pub record IsSized (n m : ℕ) (course : Course) : Type 0 where
   pub seen : length course.seen ≡ n
 
 -- what a search for reached pairs keeps
-pub record IsCourse (n : ℕ) (actions : List Action) (rows : List (List Bool)) (flags : List Bool)
+pub record IsPairSearch (task : Strips) (rows : List (List Bool)) (flags : List Bool)
     (course : Course) : Type 0 where
-  pub told : IsRowTold n rows flags course.told.items
-  pub stand : StandAll (λ q. ⊥) actions course.told.items rows course.standing.items
-  pub sized : IsSized n (length actions) course
+  pub table : IsPairTable (atoms task) rows
+  pub size : length flags ≡ atoms task + 1
+  pub ready : HaveTheirPairs (atoms task) task.actions rows flags
+  pub told : IsRowTold (atoms task) (IsAskedFor task.actions) rows flags course.told.items
+  pub stand : StandAll (λ q. ⊥) task.actions course.told.items rows course.standing.items
+  pub sized : IsSized (atoms task) (length task.actions) course
 
 -- what is known of this action may be other than before, and of nothing else
 pub record IsKeptBut (number : ℕ) (old new : Course) : Type 0 where

@@ -77,15 +77,14 @@ pub record IsPairStep (n : ℕ) (old : List (List Bool)) (flags : List Bool)
   pub fewer : missing_cells new ≤ missing_cells old
   pub falls : moved ≡ true → missing_cells new < missing_cells old
 
--- pairs came to the table, and where none did, no flag was raised
-pub record IsTurn (n : ℕ) (old : List (List Bool)) (flags : List Bool)
+-- pairs came to the table that the actions give, and where none did, no flag was raised
+pub record IsTurn (actions : List Action) (old : List (List Bool)) (flags : List Bool)
     (new : List (List Bool)) (raised : List Bool) (moved : Bool) : Type 0 where
-  pub table : IsPairTable n new
-  pub size : length raised ≡ length flags
   pub grows : (p q : ℕ) → has_pair old p q ≡ true → has_pair new p q ≡ true
   pub still : moved ≡ false → (x : ℕ) → has_atom raised x ≡ true → has_atom flags x ≡ true
   pub fewer : missing_cells new ≤ missing_cells old
   pub falls : moved ≡ true → missing_cells new < missing_cells old
+  pub least : PairsGrowWithin (KeepAllPairs actions) old new
 
 -- the flag that is raised where the action may have new work: that of an atom of its precondition,
 -- or that past the atoms where it has none

@@ -1,12 +1,14 @@
 use Rattle.std.proofs.Common.{◌∙◌, ap, length, length-set, true}
-use Rattle.hv_task.specs.Strips.{atoms}
 use Rattle.hv_reach.proofs.Turns.{turn_both}
 use Rattle.hv_reach.proofs.pair_search.chase.Goals as goal
 
-pub turn-moved-requires-clause-course : goal.turn-moved-requires-clause-course
-turn-moved-requires-clause-course c =
-    let i = c.loop-round.invariant.course in
+pub turn-moved-requires-clause-search : goal.turn-moved-requires-clause-search
+turn-moved-requires-clause-search c =
+    let i = c.loop-round.invariant.search in
     record {
+      table = i.table;
+      size = i.size;
+      ready = i.ready;
       told = i.told;
       stand = i.stand;
       sized = record {
@@ -18,14 +20,7 @@ turn-moved-requires-clause-course c =
     }
 
 pub loop-round-preserved : goal.loop-round-preserved
-loop-round-preserved c =
-    let i = c.loop-round.invariant in
-    let e = c.turn-moved.ensures in
-    record {
-      turn = turn_both (atoms c.args.task.now) c.args.rows.now.items c.loop-round.rows.items
-          c.turn-moved.new.rows.items c.args.flags.now c.loop-round.flags c.turn-moved.new.flags
-          c.loop-round.moved c.turn-moved.result i.turn e.turn;
-      ready = e.ready;
-      course = e.course;
-      least = λ r even keeps within. e.least r even keeps (i.least r even keeps within);
-    }
+loop-round-preserved c = record {
+  turn = turn_both _ _ _ _ _ _ _ _ _ c.loop-round.invariant.turn c.turn-moved.ensures.turn;
+  search = c.turn-moved.ensures.search;
+}

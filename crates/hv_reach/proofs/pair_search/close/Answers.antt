@@ -1,4 +1,3 @@
-use Rattle.std.proofs.Common.{◌∙◌}
 use Rattle.hv_task.specs.Strips.{atoms}
 use Rattle.hv_reach.proofs.Turns.{keeps_quiet, work_falls}
 use Rattle.hv_reach.proofs.pair_search.close.Goals as goal
@@ -9,26 +8,23 @@ loop-moved-preserved c =
     let f = c.settle.ensures in
     let e = c.sweep-moved.ensures in
     record {
-      table = e.turn.table;
-      flags = e.turn.size ∙ (f.turn.size ∙ i.flags);
+      search = e.search;
       grows = λ p q h. e.turn.grows p q (f.turn.grows p q (i.grows p q h));
       quiet = e.quiet;
-      ready = e.ready;
-      course = e.course;
-      least = λ r even keeps within. e.least r even keeps
-          (f.least r even keeps (i.least r even keeps within));
+      least = λ r even keeps within. e.turn.least r even keeps
+          (f.turn.least r even keeps (i.least r even keeps within));
     }
 
 pub returns-clause-keeps : goal.returns-clause-keeps
 returns-clause-keeps c =
     let i = c.loop-moved.invariant in
     keeps_quiet (atoms c.args.task.now) c.args.task.now.actions c.loop-moved.rows.items
-    c.loop-moved.flags i.flags i.ready (i.quiet c.loop-moved-test.false)
+    c.loop-moved.flags i.search.size i.search.ready (i.quiet c.loop-moved-test.false)
 
 pub loop-moved-smaller : goal.loop-moved-smaller
 loop-moved-smaller c =
     rw c.loop-moved-test.true
-    (work_falls (atoms c.args.task.now) c.loop-moved.rows.items c.settle.new.rows.items
+    (work_falls c.args.task.now.actions c.loop-moved.rows.items c.settle.new.rows.items
     c.sweep-moved.new.rows.items c.loop-moved.flags c.settle.new.flags
     c.sweep-moved.new.flags c.settle.result c.sweep-moved.result c.settle.ensures.turn
     c.sweep-moved.ensures.turn)

@@ -1,20 +1,33 @@
-use Rattle.std.proofs.Common.{◌∙◌, ◌+◌, ap, arith, get_or, length, subst, sym, refl}
+use Rattle.std.proofs.Common.{◌∙◌, ap, arith, get_or, length, subst, refl}
 use Rattle.hv_task.specs.Strips.{atoms}
-use Rattle.hv_reach.proofs.Served.{stand_end, stand_more, stand_next, told_step}
+use Rattle.hv_reach.proofs.Sets.{slice_get_at}
+use Rattle.hv_reach.proofs.Served.{stand_end, stand_more, stand_next, told_for, told_step}
 use Rattle.hv_reach.proofs.Steps.{pair_step_both}
-use Rattle.hv_reach.proofs.Turns.{ready_more}
-use Rattle.hv_reach.specs.declared.pair_course.News.{News}
-use Rattle.hv_reach.specs.Working.Course.{AreNewsBelow, IsNews, IsRowTold, StandAllBut}
+use Rattle.hv_reach.proofs.Turns.{ready_end, ready_more}
+use Rattle.hv_reach.specs.Working.Course.{IsAskedFor, IsNews}
 use Rattle.hv_reach.specs.Working.Table.{IsPairStep, HasItsPairs}
 use Rattle.hv_reach.proofs.pair_search.wake.Goals as goal
 
+pub visit-moved-requires-clause-told : goal.visit-moved-requires-clause-told
+visit-moved-requires-clause-told c =
+    rw c.atoms.ensures.atoms
+    (told_for (atoms c.args.task.now) c.args.task.now.actions c.loop-number.rows.items
+    c.loop-number.flags c.loop-number.course.told.items
+    (get_or c.args.numbers.now c.loop-number.number-index 0) c.action.result.now
+    c.action.ensures.named c.loop-number.invariant.told)
+
 pub visit-moved-requires-clause-stands : goal.visit-moved-requires-clause-stands
-visit-moved-requires-clause-stands c = λ s at.
+visit-moved-requires-clause-stands c =
     let i = c.loop-number.invariant in
+    let size = i.sized.standing in
+    let below = c.requires.numbers c.loop-number.number-index 0 (omega arith) in
     let x = get_or c.args.numbers.now c.loop-number.number-index 0 in
     stand_next c.args.numbers.now c.loop-number.number-index x (IsNews c.loop-number.course.news)
     c.args.task.now.actions c.loop-number.course.told.items c.loop-number.rows.items
-    c.loop-number.course.standing.items c.action.result.now s i.stand c.action.ensures.named at
+    c.loop-number.course.standing.items c.action.result.now c.index-standing.result.now i.stand
+    c.action.ensures.named
+    (slice_get_at c.loop-number.course.standing.items x c.index-standing.result.now
+    (omega arith) c.index-standing.ensures)
 
 pub loop-number-preserved : goal.loop-number-preserved
 loop-number-preserved c =
@@ -34,23 +47,17 @@ loop-number-preserved c =
       step = pair_step_both (atoms c.args.task.now) c.args.rows.now.items c.loop-number.rows.items
           c.visit-moved.new.rows.items c.args.flags.now c.loop-number.flags c.visit-moved.new.flags
           c.loop-number.moved c.visit-moved.result i.step step;
-      told = subst (λ t. IsRowTold (atoms c.args.task.now) c.visit-moved.new.rows.items
-          c.visit-moved.new.flags t.items) (sym e.kept.told)
-          (told_step (atoms c.args.task.now) c.loop-number.rows.items c.visit-moved.new.rows.items
-          c.loop-number.flags c.visit-moved.new.flags c.visit-moved.result old.told.items step
-          i.told);
-      news = subst (AreNewsBelow (atoms c.args.task.now)) (sym e.kept.news) i.news;
+      told = rw e.kept.told
+          (told_step (atoms c.args.task.now) (IsAskedFor c.args.task.now.actions)
+          c.loop-number.rows.items c.visit-moved.new.rows.items c.loop-number.flags
+          c.visit-moved.new.flags c.visit-moved.result old.told.items step i.told);
+      news = rw e.kept.news i.news;
       sized = record {
         standing = e.kept.count ∙ i.sized.standing;
         mask = e.kept.mask ∙ i.sized.mask;
         seen = ap length e.kept.seen ∙ i.sized.seen;
       };
-      stand = subst (λ (w : News). StandAllBut c.args.numbers.now (c.loop-number.number-index + 1)
-          (IsNews w) c.args.task.now.actions new.told.items c.visit-moved.new.rows.items
-          new.standing.items) (sym e.kept.news)
-          (subst (λ t. StandAllBut c.args.numbers.now (c.loop-number.number-index + 1)
-          (IsNews old.news) c.args.task.now.actions t.items c.visit-moved.new.rows.items
-          new.standing.items) (sym e.kept.told) stand);
+      stand = rw (e.kept.news, e.kept.told) stand;
       ready = ready_more (atoms c.args.task.now) c.args.task.now.actions c.args.numbers.now
           c.loop-number.number-index x c.loop-number.rows.items c.visit-moved.new.rows.items
           c.loop-number.flags c.visit-moved.new.flags c.visit-moved.result c.action.result.now refl
@@ -61,10 +68,15 @@ loop-number-preserved c =
           (keeps x c.action.result.now c.action.ensures.named) (i.least r even keeps within);
     }
 
-pub returns-clause-course : goal.returns-clause-course
-returns-clause-course c =
+pub returns-clause-search : goal.returns-clause-search
+returns-clause-search c =
     let i = c.loop-number.invariant in
     record {
+      table = i.step.table;
+      size = i.step.size ∙ c.requires.flags;
+      ready = ready_end c.args.numbers.now c.loop-number.number-index (atoms c.args.task.now)
+          c.args.task.now.actions c.loop-number.rows.items c.loop-number.flags (omega arith)
+          i.ready;
       told = i.told;
       stand = stand_end c.args.numbers.now c.loop-number.number-index
           (IsNews c.loop-number.course.news) c.args.task.now.actions
