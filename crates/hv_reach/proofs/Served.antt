@@ -17,7 +17,7 @@ use Rattle.hv_task.specs.State.{AreBelow, has_atom, names_atom}
 use Rattle.hv_task.proofs.Listing.{within_state}
 use Rattle.hv_task.proofs.Places.{names_atom-Decides}
 use Rattle.hv_task.proofs.Rising.{rises_apart}
-use Rattle.hv_reach.proofs.Sets.{All-from_zero, set_grows}
+use Rattle.hv_reach.proofs.Sets.{All-from_zero, rest_later, set_grows}
 use Rattle.hv_reach.proofs.Steps.{quiet_or}
 use Rattle.hv_reach.proofs.Turns.{lowered_stays}
 use Rattle.hv_reach.specs.declared.pair_course.Glance.{Glance}
@@ -285,20 +285,11 @@ stand_more numbers i x But actions told old new standing after b e grows before 
           elim (before k a s is (sym (others k other) ∙ at)) [
             | inl none ↦ inl (stands_grows (λ q. ⊥) told old new a s grows none)
             | inr w ↦ inr (
-              (w.0.0, later other w.0, w.0.2, w.0.3),
+              rest_later numbers i x k e other w.0,
               stands_grows But told old new a s grows w.1,
             )
           ]
     ]
-  where
-    later : (k ≡ x → ⊥) → (left : (j : ℕ) × (i ≤ j) × (j < length numbers)
-        × (get_or numbers j 0 ≡ k)) → i + 1 ≤ left.0
-    later other left =
-        elim (cases_eq i left.0) [
-          | inl same ↦ absurd (other (sym left.3
-              ∙ (ap (λ j. get_or numbers j 0) (sym same) ∙ sym e)))
-          | inr differ ↦ let f = left.1 in omega arith
-        ]
 
 -- when none is left
 pub stand_end : (numbers : List ℕ) (i : ℕ) (But : ℕ → Type 0) (actions : List Action)

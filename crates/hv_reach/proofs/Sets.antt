@@ -1,5 +1,5 @@
 -- Sets of atoms with one more, and lists place by place.
-use Rattle.std.proofs.Common.{◌≡◌, ℕ, suc, ◌+◌, ◌<◌, ◌∙◌, Bool, true, false, eqb, List, [], ◌∷◌}
+use Rattle.std.proofs.Common.{◌≡◌, ℕ, suc, ◌+◌, ◌<◌, ◌≤◌, ◌∙◌, Bool, true, false, eqb, List, [], ◌∷◌}
 use Rattle.std.proofs.Common.{length, set, get_or, refl, sym, ap, arith, inl, inr, subst, ◌⊎◌}
 use Rattle.std.proofs.Common.{slice_get, Some}
 use Rattle.std.proofs.lemmas.List.{length-set, get_or_default}
@@ -8,6 +8,7 @@ use Rattle.std.specs.List.{All}
 use Rattle.hv_task.specs.State.{has_atom}
 use Rattle.hv_task.proofs.Places.{has_atom-set}
 use Rattle.hv_task.proofs.Listing.{within_state}
+use Rattle.hv_reach.specs.Working.Index.{IsInRest}
 use Rattle.hv_reach.specs.Working.Waiting.{missing}
 
 pub missing_set : (s : List Bool) (p : ℕ) → p < length s → has_atom s p ≡ false
@@ -57,3 +58,16 @@ slice_get_at (y ∷ xs) (suc i) x less e = slice_get_at xs i x (omega arith) e
 pub empty_list : (xs : List ℕ) → length xs ≡ 0 → xs ≡ []
 empty_list [] e = refl
 empty_list (x ∷ xs) e = absurd (omega arith)
+
+-- what is left of a list and isn't its next item is left after it
+pub rest_later : (numbers : List ℕ) (i x k : ℕ) → x ≡ get_or numbers i 0 → (k ≡ x → ⊥)
+    → IsInRest numbers i k → IsInRest numbers (i + 1) k
+rest_later numbers i x k e other left = (left.0, later, left.2, left.3)
+  where
+    later : i + 1 ≤ left.0
+    later =
+        elim (cases_eq i left.0) [
+          | inl same ↦ absurd (other (sym left.3
+              ∙ (ap (λ j. get_or numbers j 0) (sym same) ∙ sym e)))
+          | inr differ ↦ let f = left.1 in omega arith
+        ]

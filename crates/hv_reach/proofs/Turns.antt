@@ -13,6 +13,7 @@ use Rattle.hv_task.specs.State.{has_atom, names_atom}
 use Rattle.hv_task.proofs.Places.{has_atom-set, names_atom-Decides}
 use Rattle.hv_task.proofs.Next.{unnamed}
 use Rattle.hv_task.proofs.Listing.{within_state}
+use Rattle.hv_reach.proofs.Sets.{rest_later}
 use Rattle.hv_reach.proofs.Steps.{ready_step}
 use Rattle.hv_reach.specs.Index.{IsIn, IsActionIndex}
 use Rattle.hv_reach.specs.Reached.{has_pair}
@@ -119,18 +120,9 @@ ready_more n actions numbers i x old new flags raised m b e table step before at
       | inr other ↦
           elim (before k a is) [
             | inl s ↦ inl (ready_step n old new flags raised m a table step s)
-            | inr left ↦ inr (left.0, later other left, left.2, left.3)
+            | inr left ↦ inr (rest_later numbers i x k e other left)
           ]
     ]
-  where
-    later : (k ≡ x → ⊥) → (left : (j : ℕ) × (i ≤ j) × (j < length numbers)
-        × (get_or numbers j 0 ≡ k)) → i + 1 ≤ left.0
-    later other left =
-        elim (cases_eq i left.0) [
-          | inl same ↦ absurd (other (sym left.3
-              ∙ (ap (λ j. get_or numbers j 0) (sym same) ∙ sym e)))
-          | inr differ ↦ let f = left.1 in omega arith
-        ]
 
 -- when none is left
 pub ready_end : (numbers : List ℕ) (i n : ℕ) (actions : List Action) (rows : List (List Bool))

@@ -12,7 +12,7 @@ use Rattle.hv_task.specs.declared.action.Action.{Action}
 use Rattle.hv_task.specs.AtomList.{IsListOf}
 use Rattle.hv_task.specs.State.{AreBelow, has_atom}
 use Rattle.hv_task.proofs.Listing.{within_state}
-use Rattle.hv_reach.proofs.Sets.{All-from_zero, missing_set, set_cases, set_grows}
+use Rattle.hv_reach.proofs.Sets.{All-from_zero, missing_set, rest_later, set_cases, set_grows}
 use Rattle.hv_reach.specs.Index.{IsIn, IsActionIndex}
 use Rattle.hv_reach.specs.Reached.{AreIn, IsWithin, Keeps}
 use Rattle.hv_reach.specs.Working.Waiting.{AreActionsSettled, AreActionsSettledBut, IsPassed}
@@ -92,18 +92,9 @@ settled_more actions numbers i x old new q u passed after e step before here oth
           elim (before k a is) [
             | inl s ↦ inl (subst (λ c. IsActionSettled new u a c) (sym (others k other))
                 (settled_step old new q u a (get_or passed k 0) step s))
-            | inr left ↦ inr (left.0, later other left, left.2, left.3)
+            | inr left ↦ inr (rest_later numbers i x k e other left)
           ]
     ]
-  where
-    later : (k ≡ x → ⊥) → (left : (j : ℕ) × (i ≤ j) × (j < length numbers)
-        × (get_or numbers j 0 ≡ k)) → i + 1 ≤ left.0
-    later other left =
-        elim (cases_eq i left.0) [
-          | inl same ↦ absurd (other (sym left.3
-              ∙ (ap (λ j. get_or numbers j 0) (sym same) ∙ sym e)))
-          | inr differ ↦ let f = left.1 in omega arith
-        ]
 
 -- an atom leaves the queue: each action is settled or one of those that ask for the atom
 pub settled_pop : (n : ℕ) (actions : List Action) (rows : List (Vec ℕ)) (row : Vec ℕ)

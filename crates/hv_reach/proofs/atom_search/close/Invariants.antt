@@ -1,7 +1,7 @@
-use Rattle.std.proofs.Common.{◌≡◌, ◌+◌, ℕ, Bool, true, length}
+use Rattle.std.proofs.Common.{◌≡◌, ◌+◌, ℕ, true, length}
 use Rattle.hv_task.specs.State.{has_atom}
-use Rattle.hv_reach.specs.Reached.{IsWithin, Keeps}
-use Rattle.hv_reach.specs.Working.Waiting.{AreActionsSettled, IsKeptSearch, missing}
+use Rattle.hv_reach.specs.Reached.{Keeps}
+use Rattle.hv_reach.specs.Working.Waiting.{AreActionsSettled, IsKeptSearch, missing, GrowsWithin}
 use Rattle.hv_reach.proofs.atom_search.close.Given as goal
 
 -- it goes on with every turn: an atom leaves the queue, and each that comes to it was missing
@@ -12,7 +12,7 @@ invariant-loop-atom l = record {
   settled : AreActionsSettled l.task.actions l.held l.queue.items l.passed;
   actions : length l.passed ≡ length l.fn.passed;
   grows : (p : ℕ) → has_atom l.fn.held p ≡ true → has_atom l.held p ≡ true;
-  least : (r : ℕ → Bool) → Keeps l.task.actions r → IsWithin l.fn.held r → IsWithin l.held r;
+  least : GrowsWithin (Keeps l.task.actions) l.fn.held l.held;
 }
 
 abbrev pub decreases-loop-atom : goal.decreases-loop-atom

@@ -9,8 +9,7 @@ loop-atom-preserved c =
     let i = c.loop-atom.invariant in
     let s = c.in_ok-reach.ensures.step in
     record {
-      step = step_both c.args.held.now c.loop-atom.held c.reach.new.held c.args.queue.now.items
-          c.loop-atom.queue.items c.reach.new.queue.items i.step s;
+      step = step_both _ _ _ _ _ _ i.step s;
       has = held_more c.loop-atom.held c.reach.new.held c.args.atoms.now c.loop-atom.atom-index
           (get_or c.args.atoms.now c.loop-atom.atom-index 0) (omega arith) refl s.grows
           c.in_ok-reach.ensures.has i.has;

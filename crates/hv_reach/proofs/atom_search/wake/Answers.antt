@@ -8,8 +8,7 @@ loop-number-preserved c =
     let s = c.in_ok-visit.ensures.step in
     let x = get_or c.args.numbers.now c.loop-number.number-index 0 in
     record {
-      step = step_both c.args.held.now c.loop-number.held c.visit.new.held c.args.queue.now.items
-          c.loop-number.queue.items c.visit.new.queue.items i.step s;
+      step = step_both _ _ _ _ _ _ i.step s;
       state = s.size ∙ i.state;
       actions = c.visit.ensures.actions ∙ i.actions;
       kept = c.in_ok-visit.ensures.kept;

@@ -1,7 +1,8 @@
-use Rattle.std.proofs.Common.{◌≡◌, ℕ, Bool, length}
+use Rattle.std.proofs.Common.{◌≡◌, length}
 use Rattle.hv_task.specs.Strips.{IsState}
-use Rattle.hv_reach.specs.Reached.{IsWithin, Keeps}
+use Rattle.hv_reach.specs.Reached.{Keeps}
 use Rattle.hv_reach.specs.Working.Waiting.{AreActionsSettledBut, IsKeptSearch, GrowsQueued}
+use Rattle.hv_reach.specs.Working.Waiting.{GrowsWithin}
 use Rattle.hv_reach.proofs.atom_search.wake.Given as goal
 
 abbrev pub invariant-loop-number : goal.invariant-loop-number
@@ -12,5 +13,5 @@ invariant-loop-number l = record {
   kept : IsKeptSearch l.task.actions l.held l.queue.items l.passed;
   settled : AreActionsSettledBut l.numbers l.number-index l.task.actions l.held l.queue.items
       l.passed;
-  least : (r : ℕ → Bool) → Keeps l.task.actions r → IsWithin l.fn.held r → IsWithin l.held r;
+  least : GrowsWithin (Keeps l.task.actions) l.fn.held l.held;
 }

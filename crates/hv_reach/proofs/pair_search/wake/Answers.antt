@@ -44,9 +44,7 @@ loop-number-preserved c =
     old.standing.items new.standing.items c.action.result.now refl step.grows i.stand
     c.action.ensures.named e.kept.others e.stands in
     record {
-      step = pair_step_both (atoms c.args.task.now) c.args.rows.now.items c.loop-number.rows.items
-          c.visit-moved.new.rows.items c.args.flags.now c.loop-number.flags c.visit-moved.new.flags
-          c.loop-number.moved c.visit-moved.result i.step step;
+      step = pair_step_both _ _ _ _ _ _ _ _ _ i.step step;
       told = rw e.kept.told
           (told_step (atoms c.args.task.now) (IsAskedFor c.args.task.now.actions)
           c.loop-number.rows.items c.visit-moved.new.rows.items c.loop-number.flags

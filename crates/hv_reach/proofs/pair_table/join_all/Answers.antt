@@ -11,9 +11,7 @@ loop-first-preserved c =
     let e = c.join_one-moved.ensures in
     let x = get_or c.args.list.now c.loop-first.first-index 0 in
     record {
-      step = pair_step_both c.args.atoms c.args.rows.now.items c.loop-first.rows.items
-          c.join_one-moved.new.rows.items c.args.flags.now c.loop-first.flags
-          c.join_one-moved.new.flags c.loop-first.moved c.join_one-moved.result i.step e.step;
+      step = pair_step_both _ _ _ _ _ _ _ _ _ i.step e.step;
       done = done_more (λ p. (q : ℕ) → has_atom c.args.mask.now q ≡ true
           → has_pair c.loop-first.rows.items p q ≡ true)
           (λ p. (q : ℕ) → has_atom c.args.mask.now q ≡ true

@@ -1,8 +1,8 @@
-use Rattle.std.proofs.Common.{◌≡◌, ◌<◌, ℕ, Bool, true, get_or}
+use Rattle.std.proofs.Common.{◌≡◌, ◌<◌, ℕ, true, get_or}
 use Rattle.std.specs.List.{All}
 use Rattle.hv_task.specs.State.{has_atom}
 use Rattle.hv_reach.specs.Reached.{has_pair}
-use Rattle.hv_reach.specs.Working.Table.{IsEven, IsPairStep, PairsWithin}
+use Rattle.hv_reach.specs.Working.Table.{IsPairStep, PairsGrowWithin}
 use Rattle.hv_reach.proofs.pair_table.join_all.Given as goal
 
 abbrev pub invariant-loop-first : goal.invariant-loop-first
@@ -10,7 +10,7 @@ invariant-loop-first l = record {
   step : IsPairStep l.atoms l.fn.rows.items l.fn.flags l.rows.items l.flags l.moved;
   done : (k : ℕ) → k < l.first-index → (q : ℕ) → has_atom l.mask q ≡ true
       → has_pair l.rows.items (get_or l.list k 0) q ≡ true;
-  least : (r : ℕ → ℕ → Bool) → IsEven r → All
-      (λ p. (q : ℕ) → has_atom l.mask q ≡ true → r p q ≡ true) l.list
-      → PairsWithin l.fn.rows.items r → PairsWithin l.rows.items r;
+  least : PairsGrowWithin
+      (λ set. All (λ p. (q : ℕ) → has_atom l.mask q ≡ true → set p q ≡ true) l.list)
+      l.fn.rows.items l.rows.items;
 }

@@ -31,9 +31,7 @@ loop-second-preserved c =
     (let less = c.requires.first in omega arith) ∙ sym c.index.ensures in
     let some = c.in-Some.ensures in
     record {
-      step = pair_step_both c.args.atoms c.args.rows.now.items c.loop-second.rows.items
-          c.mark-moved.new.rows.items c.args.flags.now c.loop-second.flags c.mark-moved.new.flags
-          c.loop-second.moved c.mark-moved.result i.step e.step;
+      step = pair_step_both _ _ _ _ _ _ _ _ _ i.step e.step;
       done = joined_more c.args.mask.now c.index.result.now
           (has_pair c.loop-second.rows.items c.args.first)
           (has_pair c.mark-moved.new.rows.items c.args.first) c.loop-second.from c.in-Some.second

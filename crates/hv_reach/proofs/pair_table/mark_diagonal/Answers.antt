@@ -10,9 +10,7 @@ loop-atom-preserved c =
     let e = c.mark-moved.ensures in
     let x = get_or c.args.list.now c.loop-atom.atom-index 0 in
     record {
-      step = pair_step_both c.args.atoms c.args.rows.now.items c.loop-atom.rows.items
-          c.mark-moved.new.rows.items c.args.flags.now c.loop-atom.flags c.mark-moved.new.flags
-          c.loop-atom.moved c.mark-moved.result i.step e.step;
+      step = pair_step_both _ _ _ _ _ _ _ _ _ i.step e.step;
       done = done_more (λ p. has_pair c.loop-atom.rows.items p p ≡ true)
           (λ p. has_pair c.mark-moved.new.rows.items p p ≡ true) c.args.list.now
           c.loop-atom.atom-index x refl (λ p h. e.step.grows p p h) e.set i.done;

@@ -10,9 +10,7 @@ loop-second-preserved c =
     let e = c.mark-moved.ensures in
     let x = get_or c.args.list.now c.loop-second.second-index 0 in
     record {
-      step = pair_step_both c.args.atoms c.args.rows.now.items c.loop-second.rows.items
-          c.mark-moved.new.rows.items c.args.flags.now c.loop-second.flags c.mark-moved.new.flags
-          c.loop-second.moved c.mark-moved.result i.step e.step;
+      step = pair_step_both _ _ _ _ _ _ _ _ _ i.step e.step;
       done = done_more (λ q. has_pair c.loop-second.rows.items c.args.first q ≡ true)
           (λ q. has_pair c.mark-moved.new.rows.items c.args.first q ≡ true) c.args.list.now
           c.loop-second.second-index x refl (λ q h. e.step.grows c.args.first q h) e.set i.done;

@@ -11,9 +11,7 @@ loop-first-preserved c =
     let e = c.mark_row-moved.ensures in
     let x = get_or c.args.list.now c.loop-first.first-index 0 in
     record {
-      step = pair_step_both c.args.atoms c.args.rows.now.items c.loop-first.rows.items
-          c.mark_row-moved.new.rows.items c.args.flags.now c.loop-first.flags
-          c.mark_row-moved.new.flags c.loop-first.moved c.mark_row-moved.result i.step e.step;
+      step = pair_step_both _ _ _ _ _ _ _ _ _ i.step e.step;
       done = done_more (λ p. All (λ q. has_pair c.loop-first.rows.items p q ≡ true) c.args.list.now)
           (λ p. All (λ q. has_pair c.mark_row-moved.new.rows.items p q ≡ true) c.args.list.now)
           c.args.list.now c.loop-first.first-index x refl

@@ -1,7 +1,7 @@
-use Rattle.std.proofs.Common.{◌≡◌, ◌<◌, ℕ, Bool, true, get_or}
+use Rattle.std.proofs.Common.{◌≡◌, ◌<◌, ℕ, true, get_or}
 use Rattle.std.specs.List.{All}
-use Rattle.hv_reach.specs.Reached.{ArePaired, has_pair}
-use Rattle.hv_reach.specs.Working.Table.{IsEven, IsPairStep, PairsWithin}
+use Rattle.hv_reach.specs.Reached.{HasPairsOf, has_pair}
+use Rattle.hv_reach.specs.Working.Table.{IsPairStep, PairsGrowWithin}
 use Rattle.hv_reach.proofs.pair_table.mark_square.Given as goal
 
 abbrev pub invariant-loop-first : goal.invariant-loop-first
@@ -9,6 +9,5 @@ invariant-loop-first l = record {
   step : IsPairStep l.atoms l.fn.rows.items l.fn.flags l.rows.items l.flags l.moved;
   done : (k : ℕ) → k < l.first-index → All
       (λ q. has_pair l.rows.items (get_or l.list k 0) q ≡ true) l.list;
-  least : (r : ℕ → ℕ → Bool) → IsEven r → ArePaired r l.list l.list → PairsWithin l.fn.rows.items r
-      → PairsWithin l.rows.items r;
+  least : PairsGrowWithin (λ set. HasPairsOf set l.list) l.fn.rows.items l.rows.items;
 }

@@ -20,9 +20,7 @@ loop-place-preserved c =
     → All (λ p. has_pair c.loop-place.rows.items p y ≡ true) a.pre
     → All (λ p. has_pair c.follow_one-moved.new.rows.items p y ≡ true) a.add) atom e.done in
     record {
-      step = pair_step_both c.args.atoms c.args.rows.now.items c.loop-place.rows.items
-          c.follow_one-moved.new.rows.items c.args.flags.now c.loop-place.flags
-          c.follow_one-moved.new.flags c.loop-place.moved c.follow_one-moved.result i.step e.step;
+      step = pair_step_both _ _ _ _ _ _ _ _ _ i.step e.step;
       done = λ k less free all.
           let q = get_or c.args.news.now.atoms.items k 0 in
           elim (cases_lt k c.loop-place.place) [

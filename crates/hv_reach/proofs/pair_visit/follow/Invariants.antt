@@ -1,7 +1,7 @@
-use Rattle.std.proofs.Common.{◌≡◌, ◌<◌, ℕ, Bool, true, get_or}
+use Rattle.std.proofs.Common.{◌≡◌, ◌<◌, ℕ, true, get_or}
 use Rattle.std.specs.List.{All}
 use Rattle.hv_reach.specs.Reached.{LeavesAlone, has_pair}
-use Rattle.hv_reach.specs.Working.Table.{IsEven, IsPairStep, KeepsPairs, PairsWithin}
+use Rattle.hv_reach.specs.Working.Table.{IsPairStep, KeepsPairs, PairsGrowWithin}
 use Rattle.hv_reach.proofs.pair_visit.follow.Given as goal
 
 abbrev pub invariant-loop-place : goal.invariant-loop-place
@@ -10,6 +10,5 @@ invariant-loop-place l = record {
   done : (k : ℕ) → k < l.place → LeavesAlone l.action (get_or l.news.atoms.items k 0)
       → All (λ p. has_pair l.fn.rows.items p (get_or l.news.atoms.items k 0) ≡ true) l.action.pre
       → All (λ p. has_pair l.rows.items p (get_or l.news.atoms.items k 0) ≡ true) l.action.add;
-  least : (r : ℕ → ℕ → Bool) → IsEven r → KeepsPairs r l.action
-      → PairsWithin l.fn.rows.items r → PairsWithin l.rows.items r;
+  least : PairsGrowWithin (λ set. KeepsPairs set l.action) l.fn.rows.items l.rows.items;
 }
