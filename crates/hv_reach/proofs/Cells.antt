@@ -1,10 +1,10 @@
 -- One cell of a table set, and a pair of cells.
 use Rattle.std.proofs.Common.{◌≡◌, ℕ, suc, ◌+◌, ◌<◌, ◌≤◌, ◌∙◌, Bool, true, false, ◌&&◌, not, Option}
-use Rattle.std.proofs.Common.{Some, None, List, [], ◌∷◌, length, replicate, set, get_or, refl, sym}
+use Rattle.std.proofs.Common.{Some, None, List, [], ◌∷◌, length, set, get_or, refl, sym}
 use Rattle.std.proofs.Common.{ap, arith, inl, inr, subst, ◌⊎◌}
-use Rattle.std.proofs.lemmas.Bool.{cases_Bool, cases_eq, cases_lt, and_parts, not-true}
-use Rattle.std.proofs.lemmas.List.{length-set, length-replicate, get_or-replicate, get_or-set_other}
-use Rattle.std.proofs.lemmas.List.{get_or_past}
+use Rattle.std.proofs.lemmas.Bool.{cases_Bool, cases_eq, and_parts, not-true}
+use Rattle.std.proofs.lemmas.List.{length-set, get_or-set_other}
+use Rattle.std.proofs.lemmas.List.{get_or_default}
 use Rattle.std.proofs.lemmas.Grind.{get_or-set_at}
 use Rattle.std.specs.List.{All}
 use Rattle.hv_task.specs.Atoms.{IsNext}
@@ -12,6 +12,7 @@ use Rattle.hv_task.specs.State.{has_atom}
 use Rattle.hv_task.proofs.Listing.{within_state}
 use Rattle.hv_reach.proofs.Sets.{missing_set, set_cases, set_grows, set_has}
 use Rattle.hv_reach.specs.Reached.{has_pair}
+use Rattle.hv_reach.specs.Working.NoteRows.{AreColumns}
 use Rattle.hv_reach.specs.Working.Table.{AreRaised, IsNextNew, IsPairStep, IsPairTable}
 use Rattle.hv_reach.specs.Working.Table.{missing_cells, set_at, set_both}
 use Rattle.hv_reach.specs.Working.Waiting.{missing}
@@ -209,29 +210,15 @@ mark_step n rows flags raised p q table p_less q_less unset diagonal size stay u
           | inr w ↦ (grows p p w.0, grows q q w.1)
         ]
 
-no_flag : (n q : ℕ) → has_atom (replicate n false) q ≡ false
-no_flag n q = elim (cases_lt q n) [
-  | inl lt ↦ get_or-replicate n q false false lt
-  | inr ge ↦
-      get_or_past (replicate n false) q false (omega (arith, length-replicate n false))
-]
-
-pub at_none : (n : ℕ) (rows : List (List Bool))
-    → All (λ (row : List Bool). row ≡ replicate n false) rows → (p q : ℕ)
-    → has_pair rows p q ≡ false
-at_none n rows each p q =
-    elim (cases_lt p (length rows)) [
-      | inl lt ↦ ap (λ (r : List Bool). has_atom r q) (each p [] lt) ∙ no_flag n q
-      | inr ge ↦ ap (λ (r : List Bool). has_atom r q) (get_or_past rows p [] ge)
-    ]
-
-pub table_none : (n : ℕ) (rows : List (List Bool)) → length rows ≡ n
-    → All (λ (row : List Bool). row ≡ replicate n false) rows → IsPairTable n rows
-table_none n rows size each = record {
+-- a table without a pair
+pub table_none : (n : ℕ) (rows : List (List Bool)) → length rows ≡ n → AreColumns n rows
+    → ((p q : ℕ) → has_pair rows p q ≡ false) → IsPairTable n rows
+table_none n rows size wide none = record {
   size = size;
-  each = λ i d less. ap (λ (r : List Bool). length r) (each i d less) ∙ length-replicate n false;
-  even = λ p q h. let e = at_none n rows each p q in absurd cc;
-  whole = λ p q h. let e = at_none n rows each p q in absurd cc;
+  each = λ i d less.
+      ap (λ (r : List Bool). length r) (get_or_default rows i d [] less) ∙ wide i less;
+  even = λ p q h. let e = none p q in absurd cc;
+  whole = λ p q h. let e = none p q in absurd cc;
 }
 
 -- what is in the one set and not outside the other

@@ -17,6 +17,7 @@ use Rattle.hv_task.specs.State.{AreBelow, has_atom, names_atom}
 use Rattle.hv_task.proofs.Listing.{within_state}
 use Rattle.hv_task.proofs.Places.{names_atom-Decides}
 use Rattle.hv_task.proofs.Rising.{rises_apart}
+use Rattle.hv_reach.proofs.Cells.{in_both}
 use Rattle.hv_reach.proofs.Sets.{All-from_zero, rest_later, set_grows}
 use Rattle.hv_reach.proofs.Steps.{quiet_or}
 use Rattle.hv_reach.proofs.Turns.{lowered_stays}
@@ -433,17 +434,6 @@ pub raised_within : (flags : List Bool) (from : ℕ) (next : Option ℕ)
 raised_within flags from None is = tt
 raised_within flags from (Some x) is = (is.0, within_state flags x is.1)
 
--- what isn't new is known
-known_from : (row told : List Bool) (q : ℕ) → has_atom row q ≡ true
-    → (has_atom row q && not (has_atom told q)) ≡ false → has_atom told q ≡ true
-known_from row told q held out =
-    elim (cases_Bool (has_atom told q)) [
-      | inl known ↦ known
-      | inr new ↦
-          let e : (true && not false) ≡ false = subst (λ b. (b && not false) ≡ false) held
-          (subst (λ b. (has_atom row q && not b) ≡ false) new out) in absurd cc
-    ]
-
 -- what is new before a place of the row, with one more
 pub fresh_more : (row told : List Bool) (atoms : List ℕ) (count from x : ℕ)
     → count < length atoms
@@ -464,7 +454,7 @@ fresh_more row told atoms count from x less before next q below held =
         )
       ]
       | inr ge ↦ elim (cases_lt q x) [
-        | inl lt ↦ inl (known_from row told q held (next.2 q ge lt))
+        | inl lt ↦ inl (in_both _ _ (next.2 q ge lt) held)
         | inr past ↦
             let same : x ≡ q = omega arith in
             inr (count, omega arith, get_or-set_at atoms count count x 0 refl less ∙ same)

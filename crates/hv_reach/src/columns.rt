@@ -10,18 +10,18 @@ ghost use Rattle.hv_reach.specs.Reached.{has_pair};
 use hv_task::{Atoms, Hint, State};
 use std::alloc::{AllocError, Global};
 
-/// The columns for so many atoms of a block without rows, with space for so many rows.
-pub(crate) fn empty_columns(alloc: Global, atoms: u32, room: u32) -> Result<Vec<State>, AllocError>
-    ensures size { IfOk result (λ columns. length columns.items ≡ atoms) }
-    ensures columns { IfOk result (λ columns. AreColumns room columns.items) }
-    ensures none { IfOk result (λ columns. (p j : ℕ) → has_pair columns.items p j ≡ false) }
+/// So many states that hold nothing, each over so many atoms: the columns of a block without rows.
+pub(crate) fn empty_states(alloc: Global, count: u32, atoms: u32) -> Result<Vec<State>, AllocError>
+    ensures size { IfOk result (λ states. length states.items ≡ count) }
+    ensures columns { IfOk result (λ states. AreColumns atoms states.items) }
+    ensures none { IfOk result (λ states. (p j : ℕ) → has_pair states.items p j ≡ false) }
 {
-    let mut columns = Vec::new(alloc);
-    for atom in 0..atoms {
-        let _ = atom;
-        columns.push(State::empty(alloc, room)?)?;
+    let mut states = Vec::new(alloc);
+    for place in 0..count {
+        let _ = place;
+        states.push(State::empty(alloc, atoms)?)?;
     }
-    Ok(columns)
+    Ok(states)
 }
 
 /// Writes the row at this place.

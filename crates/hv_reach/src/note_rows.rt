@@ -15,7 +15,7 @@ ghost use Rattle.std.specs.Prelude.{vec_len};
 ghost use Rattle.hv_task.specs.State.{AreBelow};
 ghost use Rattle.hv_reach.specs.Working.NoteRows.{AreRowsIn, AreRowsOver, IsFirstPlace, RowHas};
 
-use crate::columns::{empty_columns, enter, first_in};
+use crate::columns::{empty_states, enter, first_in};
 use hv_task::State;
 use std::alloc::{AllocError, Global};
 use std::marker::Model;
@@ -185,6 +185,6 @@ fn make_room(
     if rows.len() / BLOCK < blocks.len() {
         return Ok(());
     }
-    blocks.push(empty_columns(alloc, atoms, BLOCK as u32)?)?;
+    blocks.push(empty_states(alloc, atoms, BLOCK as u32)?)?;
     Ok(())
 }

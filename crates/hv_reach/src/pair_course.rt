@@ -1,12 +1,12 @@
 //! What a search for reached pairs knows, so that it looks at what is new alone.
 //!
-//! Of each row it keeps what actions were told of it: the news are what the row has more. Of each
-//! action it keeps a pair of its precondition that is missing, with its place, before which none
-//! is; or that none is missing. As pairs never go, the search for what is missing looks at each pair
-//! of a precondition once. An action that lacks its pair still is passed over by a look at that
-//! pair, and one that lacks none by a glance at two of its atoms, where the row of one of them
-//! hasn't the new atom: then nothing of the action itself is read. That takes 20 bytes an action,
-//! and besides the table once more.
+//! Of each row it keeps what actions were told of it: the news are what the row has more. Where no
+//! action asks for the row's atom, nothing is told. Of each action it keeps a pair of its
+//! precondition that is missing, with its place, before which none is; or that none is missing. As
+//! pairs never go, the search for what is missing looks at each pair of a precondition once. An
+//! action that lacks its pair still is passed over by a look at that pair, and one that lacks none
+//! by a glance at two of its atoms, where the row of one of them hasn't the new atom: then nothing
+//! of the action itself is read. That takes 20 bytes an action, and besides the table once more.
 
 ghost use Rattle.std.specs.Prelude.{◌≡◌, ◌<◌, ◌≤◌, ◌⊎◌, ℕ, true, false, length, Some, IfOk};
 ghost use Rattle.std.specs.Prelude.{MatchOption, slice_get, slice_index};

@@ -9,6 +9,7 @@ ghost use Rattle.hv_reach.specs.Reached.{ArePaired, HasPairsOf, has_pair};
 ghost use Rattle.hv_reach.specs.Working.Table.{AreRaised, IsPairStep, IsNextNew, IsPairTable};
 ghost use Rattle.hv_reach.specs.Working.Table.{PairsGrowWithin, set_at, set_both};
 
+use crate::columns::empty_states;
 use hv_task::State;
 use std::alloc::{AllocError, Global};
 
@@ -17,11 +18,7 @@ pub(crate) fn table(alloc: Global, atoms: u32) -> Result<Vec<State>, AllocError>
     ensures table { IfOk result (λ rows. IsPairTable atoms rows.items) }
     ensures none { IfOk result (λ rows. (p q : ℕ) → has_pair rows.items p q ≡ false) }
 {
-    let mut rows = Vec::new(alloc);
-    for place in 0..atoms {
-        let _ = place;
-        rows.push(State::empty(alloc, atoms)?)?;
-    }
+    let rows = empty_states(alloc, atoms, atoms)?;
     Ok(rows)
 }
 

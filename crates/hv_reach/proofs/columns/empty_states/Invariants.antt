@@ -1,9 +1,9 @@
 use Rattle.std.proofs.Common.{◌≡◌, Bool, false, List, length, replicate}
 use Rattle.std.specs.List.{All}
-use Rattle.hv_reach.proofs.pair_table.table.Given as goal
+use Rattle.hv_reach.proofs.columns.empty_states.Given as goal
 
 abbrev pub invariant-loop-place : goal.invariant-loop-place
 invariant-loop-place l = record {
-  size : length l.rows.items ≡ l.place;
-  each : All (λ (row : List Bool). row ≡ replicate l.atoms false) l.rows.items;
+  size : length l.states.items ≡ l.place;
+  each : All (λ (state : List Bool). state ≡ replicate l.atoms false) l.states.items;
 }
