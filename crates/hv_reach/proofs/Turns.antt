@@ -15,15 +15,16 @@ use Rattle.hv_task.proofs.Next.{unnamed}
 use Rattle.hv_task.proofs.Listing.{within_state}
 use Rattle.hv_reach.proofs.Sets.{rest_later}
 use Rattle.hv_reach.proofs.Steps.{ready_step}
+use Rattle.hv_reach.specs.declared.pair_search.PairSearch.{PairSearch}
 use Rattle.hv_reach.specs.Index.{IsIn, IsActionIndex}
 use Rattle.hv_reach.specs.Reached.{has_pair}
 use Rattle.hv_reach.specs.Working.Table.{HaveTheirPairs, HaveTheirPairsBut, IsPairStep, HasItsPairs}
 use Rattle.hv_reach.specs.Working.Table.{IsPairTable, IsTrigger, IsTurn, KeepAllPairs}
 use Rattle.hv_reach.specs.Working.Table.{PairsGrowWithin, missing_cells}
 
-pub turn_both : (actions : List Action) (a b c : List (List Bool)) (f g h : List Bool) (m k : Bool)
-    → IsTurn actions a f b g m → IsTurn actions b g c h k → IsTurn actions a f c h (m || k)
-turn_both actions a b c f g h m k s t = record {
+pub turn_both : (actions : List Action) (a b c : PairSearch) (m k : Bool) → IsTurn actions a b m
+    → IsTurn actions b c k → IsTurn actions a c (m || k)
+turn_both actions a b c m k s t = record {
   grows = λ p q e. t.grows p q (s.grows p q e);
   still = λ e x d. let w = or_parts m k e in s.still w.0 x (t.still w.1 x d);
   fewer = let u = s.fewer in let v = t.fewer in omega arith;
@@ -59,13 +60,13 @@ lowered_stays flags x y other h =
     has_atom-set flags x y false (within_state flags y h)
     ∙ (cond-false (eqb x y) false (has_atom flags y) (ne_eqb x y other) ∙ h)
 
-pub turn_from_step : (n : ℕ) (actions : List Action) (old new : List (List Bool))
-    (flags raised : List Bool) (x : ℕ) (m : Bool)
-    → IsPairStep n old (set flags x false) new raised m
-    → PairsGrowWithin (KeepAllPairs actions) old new → IsTurn actions old flags new raised m
-turn_from_step n actions old new flags raised x m step least = record {
+pub turn_from_step : (n : ℕ) (actions : List Action) (old new : PairSearch) (x : ℕ) (m : Bool)
+    → IsPairStep n old.rows.items (set old.flags x false) new.rows.items new.flags m
+    → PairsGrowWithin (KeepAllPairs actions) old.rows.items new.rows.items
+    → IsTurn actions old new m
+turn_from_step n actions old new x m step least = record {
   grows = step.grows;
-  still = λ e y h. (lowered_other flags x y (step.still e y h)).0;
+  still = λ e y h. (lowered_other old.flags x y (step.still e y h)).0;
   fewer = step.fewer;
   falls = step.falls;
   least = least;
@@ -134,21 +135,21 @@ ready_end numbers i n actions rows flags past all k a is =
       | inr w ↦ let f = w.1 in let g = w.2 in absurd (omega arith)
     ]
 
-pub quiet_more : (actions : List Action) (old new : List (List Bool)) (flags raised : List Bool)
-    (x : ℕ) (m k : Bool) → IsTurn actions old flags new raised k
-    → (m ≡ false → (y : ℕ) → y < x → has_atom flags y ≡ false)
-    → (k ≡ false → has_atom raised x ≡ false)
-    → (m || k) ≡ false → (y : ℕ) → y < x + 1 → has_atom raised y ≡ false
-quiet_more actions old new flags raised x m k turn before here e y less =
+pub quiet_more : (actions : List Action) (old new : PairSearch) (x : ℕ) (m k : Bool)
+    → IsTurn actions old new k
+    → (m ≡ false → (y : ℕ) → y < x → has_atom old.flags y ≡ false)
+    → (k ≡ false → has_atom new.flags x ≡ false)
+    → (m || k) ≡ false → (y : ℕ) → y < x + 1 → has_atom new.flags y ≡ false
+quiet_more actions old new x m k turn before here e y less =
     let w = or_parts m k e in
     elim (cases_lt y x) [
       | inl lt ↦
-          elim (cases_Bool (has_atom raised y)) [
+          elim (cases_Bool (has_atom new.flags y)) [
             | inl up ↦ let f = turn.still w.1 y up in let g = before w.0 y lt in absurd cc
             | inr down ↦ down
           ]
       | inr ge ↦ let same : x ≡ y = omega arith in
-          subst (λ z. has_atom raised z ≡ false) same (here w.1)
+          subst (λ z. has_atom new.flags z ≡ false) same (here w.1)
     ]
 
 -- where no flag is raised, the table keeps all pairs
@@ -189,8 +190,8 @@ taken_more list i first old before q h =
     )
 
 -- a round with a turn that put pairs in leaves fewer missing, and one without is the last
-pub work_falls : (actions : List Action) (a b c : List (List Bool)) (f g h : List Bool)
-    (m k : Bool) → IsTurn actions a f b g m → IsTurn actions b g c h k
-    → missing_cells c + cond k 1 0 < missing_cells a + 1
-work_falls actions a b c f g h m true s t = let u = s.fewer in let v = t.falls refl in omega arith
-work_falls actions a b c f g h m false s t = let u = s.fewer in let v = t.fewer in omega arith
+pub work_falls : (actions : List Action) (a b c : PairSearch) (m k : Bool) → IsTurn actions a b m
+    → IsTurn actions b c k
+    → missing_cells c.rows.items + cond k 1 0 < missing_cells a.rows.items + 1
+work_falls actions a b c m true s t = let u = s.fewer in let v = t.falls refl in omega arith
+work_falls actions a b c m false s t = let u = s.fewer in let v = t.fewer in omega arith

@@ -20,50 +20,47 @@ use crate::pair_course::{Course, tell};
 use crate::pair_visit::visit;
 use hv_task::{Atoms, Hint, State, Task};
 
+/// What a search for reached pairs goes by: the table, a flag for each row and one past them, and
+/// what it knows.
+#[derive(Drop)]
+pub(crate) struct PairSearch {
+    pub(crate) rows: Vec<State>,
+    pub(crate) flags: State,
+    pub(crate) course: Course,
+}
+
 /// Goes on until no flag is raised. Short rows come before long ones, which wait until the short
 /// ones are settled: where pairs come one after the other, a long row is then not gone through for
 /// each.
-pub(crate) fn close(
-    task: &Task,
-    index: &Vec<Vec<u32>>,
-    rows: &mut Vec<State>,
-    flags: &mut State,
-    course: &mut Course,
-)
+pub(crate) fn close(task: &Task, index: &Vec<Vec<u32>>, search: &mut PairSearch)
     requires index { IsTaskIndex task.now index.now.items }
-    requires search { IsPairSearch task.now rows.old.items flags.old course.old }
-    ensures table { IsPairTable (atoms task.now) rows.new.items }
-    ensures grows { (p q : ℕ) → has_pair rows.old.items p q ≡ true
-        → has_pair rows.new.items p q ≡ true }
-    ensures keeps { KeepAllPairs task.now.actions (has_pair rows.new.items) }
-    ensures least { PairsGrowWithin (KeepAllPairs task.now.actions) rows.old.items rows.new.items }
+    requires search { IsPairSearch task.now search.old }
+    ensures table { IsPairTable (atoms task.now) search.new.rows.items }
+    ensures grows { (p q : ℕ) → has_pair search.old.rows.items p q ≡ true
+        → has_pair search.new.rows.items p q ≡ true }
+    ensures keeps { KeepAllPairs task.now.actions (has_pair search.new.rows.items) }
+    ensures least { PairsGrowWithin (KeepAllPairs task.now.actions)
+        search.old.rows.items search.new.rows.items }
 {
     let mut moved = true;
     while moved {
-        settle(task, index, rows, flags, course);
-        moved = sweep(task, index, rows, flags, course);
+        settle(task, index, search);
+        moved = sweep(task, index, search);
     }
 }
 
 // Turns for new atoms and for short rows, as long as a pair comes, but not for ever.
-fn settle(
-    task: &Task,
-    index: &Vec<Vec<u32>>,
-    rows: &mut Vec<State>,
-    flags: &mut State,
-    course: &mut Course,
-) -> bool
+fn settle(task: &Task, index: &Vec<Vec<u32>>, search: &mut PairSearch) -> bool
     requires index { IsTaskIndex task.now index.now.items }
-    requires search { IsPairSearch task.now rows.old.items flags.old course.old }
-    ensures turn { IsTurn task.now.actions rows.old.items flags.old
-        rows.new.items flags.new result }
-    ensures search { IsPairSearch task.now rows.new.items flags.new course.new }
+    requires search { IsPairSearch task.now search.old }
+    ensures turn { IsTurn task.now.actions search.old search.new result }
+    ensures search { IsPairSearch task.now search.new }
 {
     let mut moved = false;
     for round in 0..task.atoms() {
         let _ = round;
-        moved |= chase(task, index, rows, flags, course);
-        let more = sweep_short(task, index, rows, flags, course);
+        moved |= chase(task, index, search);
+        let more = sweep_short(task, index, search);
         moved |= more;
         if !more {
             return moved;
@@ -73,26 +70,19 @@ fn settle(
 }
 
 // One turn for each atom that few actions ask for.
-fn sweep_short(
-    task: &Task,
-    index: &Vec<Vec<u32>>,
-    rows: &mut Vec<State>,
-    flags: &mut State,
-    course: &mut Course,
-) -> bool
+fn sweep_short(task: &Task, index: &Vec<Vec<u32>>, search: &mut PairSearch) -> bool
     requires index { IsTaskIndex task.now index.now.items }
-    requires search { IsPairSearch task.now rows.old.items flags.old course.old }
-    ensures turn { IsTurn task.now.actions rows.old.items flags.old
-        rows.new.items flags.new result }
-    ensures search { IsPairSearch task.now rows.new.items flags.new course.new }
+    requires search { IsPairSearch task.now search.old }
+    ensures turn { IsTurn task.now.actions search.old search.new result }
+    ensures search { IsPairSearch task.now search.new }
 {
     let mut moved = false;
     let mut from = 0;
-    while let Some(flag) = next_raised(flags, from) {
+    while let Some(flag) = next_raised(&search.flags, from) {
         if flag == task.atoms() {
             return moved;
         }
-        moved |= turn_short(task, index, rows, flags, course, flag);
+        moved |= turn_short(task, index, search, flag);
         from = flag + 1;
     }
     moved
@@ -100,51 +90,36 @@ fn sweep_short(
 
 // A turn for the flag where it denotes few actions: at most sixteen times as many as there are
 // for an atom.
-fn turn_short(
-    task: &Task,
-    index: &Vec<Vec<u32>>,
-    rows: &mut Vec<State>,
-    flags: &mut State,
-    course: &mut Course,
-    flag: u32,
-) -> bool
+fn turn_short(task: &Task, index: &Vec<Vec<u32>>, search: &mut PairSearch, flag: u32) -> bool
     requires flag { flag ≤ atoms task.now }
     requires index { IsTaskIndex task.now index.now.items }
-    requires search { IsPairSearch task.now rows.old.items flags.old course.old }
-    ensures turn { IsTurn task.now.actions rows.old.items flags.old
-        rows.new.items flags.new result }
-    ensures search { IsPairSearch task.now rows.new.items flags.new course.new }
+    requires search { IsPairSearch task.now search.old }
+    ensures turn { IsTurn task.now.actions search.old search.new result }
+    ensures search { IsPairSearch task.now search.new }
 {
     let few = 16 * task.actions() / (task.atoms() + 1);
     if index[flag as usize].len() > few as usize {
         return false;
     }
-    turn(task, index, rows, flags, course, flag)
+    turn(task, index, search, flag)
 }
 
 // One turn for each atom that is new, and for those that come up meanwhile: atoms that are in with
 // themselves and were not seen.
-fn chase(
-    task: &Task,
-    index: &Vec<Vec<u32>>,
-    rows: &mut Vec<State>,
-    flags: &mut State,
-    course: &mut Course,
-) -> bool
+fn chase(task: &Task, index: &Vec<Vec<u32>>, search: &mut PairSearch) -> bool
     requires index { IsTaskIndex task.now index.now.items }
-    requires search { IsPairSearch task.now rows.old.items flags.old course.old }
-    ensures turn { IsTurn task.now.actions rows.old.items flags.old
-        rows.new.items flags.new result }
-    ensures search { IsPairSearch task.now rows.new.items flags.new course.new }
+    requires search { IsPairSearch task.now search.old }
+    ensures turn { IsTurn task.now.actions search.old search.new result }
+    ensures search { IsPairSearch task.now search.new }
 {
     let mut moved = false;
     for round in 0..task.atoms() {
         let _ = round;
-        match next_unseen(task.atoms(), rows, flags, &course.seen) {
+        match next_unseen(task.atoms(), search) {
             None => return moved,
             Some(atom) => {
-                course.seen.set(atom, true);
-                moved |= turn(task, index, rows, flags, course, atom);
+                search.course.seen.set(atom, true);
+                moved |= turn(task, index, search, atom);
             }
         }
     }
@@ -152,18 +127,18 @@ fn chase(
 }
 
 // An atom with a flag that is raised, that is in with itself and was not seen, if there is one.
-fn next_unseen(atoms: u32, rows: &Vec<State>, flags: &State, seen: &State) -> Option<u32>
-    requires table { IsPairTable atoms rows.now.items }
-    requires flags { length flags.now ≡ atoms + 1 }
-    requires seen { length seen.now ≡ atoms }
+fn next_unseen(atoms: u32, search: &PairSearch) -> Option<u32>
+    requires table { IsPairTable atoms search.now.rows.items }
+    requires flags { length search.now.flags ≡ atoms + 1 }
+    requires seen { length search.now.course.seen ≡ atoms }
     ensures { IfSome result (λ q. q < atoms) }
 {
     let mut from = 0;
-    while let Some(flag) = next_raised(flags, from) {
+    while let Some(flag) = next_raised(&search.flags, from) {
         if flag == atoms {
             return None;
         }
-        if !seen.has(flag) && rows[flag as usize].has(flag) {
+        if !search.course.seen.has(flag) && search.rows[flag as usize].has(flag) {
             return Some(flag);
         }
         from = flag + 1;
@@ -180,93 +155,74 @@ fn next_raised(flags: &State, from: u32) -> Option<u32>
 }
 
 // One turn for each flag.
-fn sweep(
-    task: &Task,
-    index: &Vec<Vec<u32>>,
-    rows: &mut Vec<State>,
-    flags: &mut State,
-    course: &mut Course,
-) -> bool
+fn sweep(task: &Task, index: &Vec<Vec<u32>>, search: &mut PairSearch) -> bool
     requires index { IsTaskIndex task.now index.now.items }
-    requires search { IsPairSearch task.now rows.old.items flags.old course.old }
-    ensures turn { IsTurn task.now.actions rows.old.items flags.old
-        rows.new.items flags.new result }
+    requires search { IsPairSearch task.now search.old }
+    ensures turn { IsTurn task.now.actions search.old search.new result }
     ensures quiet { result ≡ false → (x : ℕ) → x ≤ atoms task.now
-        → has_atom flags.new x ≡ false }
-    ensures search { IsPairSearch task.now rows.new.items flags.new course.new }
+        → has_atom search.new.flags x ≡ false }
+    ensures search { IsPairSearch task.now search.new }
 {
     let mut moved = false;
     for flag in 0..task.atoms() + 1 {
-        moved |= turn(task, index, rows, flags, course, flag);
+        moved |= turn(task, index, search, flag);
     }
     moved
 }
 
 /// Where the flag is raised, lowers it and visits the actions that it denotes.
-pub(crate) fn turn(
-    task: &Task,
-    index: &Vec<Vec<u32>>,
-    rows: &mut Vec<State>,
-    flags: &mut State,
-    course: &mut Course,
-    flag: u32,
-) -> bool
+pub(crate) fn turn(task: &Task, index: &Vec<Vec<u32>>, search: &mut PairSearch, flag: u32) -> bool
     requires flag { flag ≤ atoms task.now }
     requires index { IsTaskIndex task.now index.now.items }
-    requires search { IsPairSearch task.now rows.old.items flags.old course.old }
-    ensures turn { IsTurn task.now.actions rows.old.items flags.old
-        rows.new.items flags.new result }
-    ensures lowered { result ≡ false → has_atom flags.new flag ≡ false }
-    ensures search { IsPairSearch task.now rows.new.items flags.new course.new }
+    requires search { IsPairSearch task.now search.old }
+    ensures turn { IsTurn task.now.actions search.old search.new result }
+    ensures lowered { result ≡ false → has_atom search.new.flags flag ≡ false }
+    ensures search { IsPairSearch task.now search.new }
 {
-    if !flags.has(flag) {
+    if !search.flags.has(flag) {
         return false;
     }
-    flags.set(flag, false);
+    search.flags.set(flag, false);
     let row = index[flag as usize].as_slice();
+    let course = &mut search.course;
     tell(
         task.atoms(),
-        rows,
+        &search.rows,
         &mut course.told,
         &mut course.news,
         flag,
         row,
     );
-    wake(task, rows, flags, course, row)
+    wake(task, search, row)
 }
 
 // Visits each of these actions, and says whether a pair is new.
-fn wake(
-    task: &Task,
-    rows: &mut Vec<State>,
-    flags: &mut State,
-    course: &mut Course,
-    numbers: &[u32],
-) -> bool
+fn wake(task: &Task, search: &mut PairSearch, numbers: &[u32]) -> bool
     requires numbers { AreBelow (length task.now.actions) numbers.now }
-    requires table { IsPairTable (atoms task.now) rows.old.items }
-    requires flags { length flags.old ≡ atoms task.now + 1 }
+    requires table { IsPairTable (atoms task.now) search.old.rows.items }
+    requires flags { length search.old.flags ≡ atoms task.now + 1 }
     requires told { IsRowTold (atoms task.now) (IsAskedFor task.now.actions)
-        rows.old.items flags.old course.old.told.items }
-    requires news { AreNewsBelow (atoms task.now) course.old.news }
-    requires sized { IsSized (atoms task.now) (length task.now.actions) course.old }
-    requires stand { StandAllBut numbers.now 0 (IsNews course.old.news) task.now.actions
-        course.old.told.items rows.old.items course.old.standing.items }
+        search.old.rows.items search.old.flags search.old.course.told.items }
+    requires news { AreNewsBelow (atoms task.now) search.old.course.news }
+    requires sized { IsSized (atoms task.now) (length task.now.actions) search.old.course }
+    requires stand { StandAllBut numbers.now 0 (IsNews search.old.course.news) task.now.actions
+        search.old.course.told.items search.old.rows.items search.old.course.standing.items }
     requires ready { HaveTheirPairsBut numbers.now 0 (atoms task.now)
-        task.now.actions rows.old.items flags.old }
-    ensures step { IsPairStep (atoms task.now) rows.old.items flags.old
-        rows.new.items flags.new result }
-    ensures search { IsPairSearch task.now rows.new.items flags.new course.new }
-    ensures least { PairsGrowWithin (KeepAllPairs task.now.actions) rows.old.items rows.new.items }
+        task.now.actions search.old.rows.items search.old.flags }
+    ensures step { IsPairStep (atoms task.now) search.old.rows.items search.old.flags
+        search.new.rows.items search.new.flags result }
+    ensures search { IsPairSearch task.now search.new }
+    ensures least { PairsGrowWithin (KeepAllPairs task.now.actions)
+        search.old.rows.items search.new.rows.items }
 {
     let mut moved = false;
     for number in numbers {
-        let standing = course.standing[*number as usize];
+        let standing = search.course.standing[*number as usize];
         moved |= visit(
             task.atoms(),
-            rows,
-            flags,
-            course,
+            &mut search.rows,
+            &mut search.flags,
+            &mut search.course,
             *number,
             task.action(*number),
             standing,

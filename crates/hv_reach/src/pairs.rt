@@ -15,7 +15,7 @@ ghost use Rattle.hv_reach.specs.Working.Table.{IsPairTable};
 use crate::index::index;
 use crate::mask::{diagonal, has_pairs};
 use crate::pair_course::new_course;
-use crate::pair_search::{close, turn};
+use crate::pair_search::{PairSearch, close, turn};
 use crate::pair_table::{mark_all, table};
 use hv_task::{State, Task};
 use std::alloc::{AllocError, Global};
@@ -122,19 +122,17 @@ fn reached_rows(
 {
     let mut rows = table(alloc, task.atoms())?;
     let mut flags = State::empty(alloc, task.atoms() + 1)?;
-    let mut course = new_course(alloc, task.atoms(), task.actions())?;
+    let course = new_course(alloc, task.atoms(), task.actions())?;
     let mut held = Vec::new(alloc);
     start.list_atoms(&mut held)?;
     mark_all(task.atoms(), &mut rows, &mut flags, held.as_slice());
     flags.set(task.atoms(), true);
-    turn(
-        task,
-        index,
-        &mut rows,
-        &mut flags,
-        &mut course,
-        task.atoms(),
-    );
-    close(task, index, &mut rows, &mut flags, &mut course);
-    Ok(rows)
+    let mut search = PairSearch {
+        rows,
+        flags,
+        course,
+    };
+    turn(task, index, &mut search, task.atoms());
+    close(task, index, &mut search);
+    Ok(search.rows)
 }

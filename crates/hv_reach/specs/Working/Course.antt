@@ -12,6 +12,7 @@ use Rattle.hv_reach.specs.declared.pair_course.Lack.{Lack}
 use Rattle.hv_reach.specs.declared.pair_course.News.{News}
 use Rattle.hv_reach.specs.declared.pair_course.ActionStanding.{ActionStanding}
 use Rattle.hv_reach.specs.declared.pair_course.ActionStanding.TheVariants as S
+use Rattle.hv_reach.specs.declared.pair_search.PairSearch.{PairSearch}
 use Rattle.hv_reach.specs.Reached.{HasPairsOf, LeavesAlone, has_pair}
 use Rattle.hv_reach.specs.Working.Index.{IsInRest}
 use Rattle.hv_reach.specs.Working.Table.{HaveTheirPairs, IsPairTable}
@@ -117,14 +118,15 @@ pub record IsSized (n m : ℕ) (course : Course) : Type 0 where
   pub seen : length course.seen ≡ n
 
 -- what a search for reached pairs keeps
-pub record IsPairSearch (task : Strips) (rows : List (List Bool)) (flags : List Bool)
-    (course : Course) : Type 0 where
-  pub table : IsPairTable (atoms task) rows
-  pub size : length flags ≡ atoms task + 1
-  pub ready : HaveTheirPairs (atoms task) task.actions rows flags
-  pub told : IsRowTold (atoms task) (IsAskedFor task.actions) rows flags course.told.items
-  pub stand : StandAll (λ q. ⊥) task.actions course.told.items rows course.standing.items
-  pub sized : IsSized (atoms task) (length task.actions) course
+pub record IsPairSearch (task : Strips) (search : PairSearch) : Type 0 where
+  pub table : IsPairTable (atoms task) search.rows.items
+  pub size : length search.flags ≡ atoms task + 1
+  pub ready : HaveTheirPairs (atoms task) task.actions search.rows.items search.flags
+  pub told : IsRowTold (atoms task) (IsAskedFor task.actions) search.rows.items search.flags
+      search.course.told.items
+  pub stand : StandAll (λ q. ⊥) task.actions search.course.told.items search.rows.items
+      search.course.standing.items
+  pub sized : IsSized (atoms task) (length task.actions) search.course
 
 -- what is known of this action may be other than before, and of nothing else
 pub record IsKeptBut (number : ℕ) (old new : Course) : Type 0 where

@@ -5,6 +5,7 @@ use Rattle.std.specs.Prelude.{Some, slice_get, slice_index_or, slice_set, Option
 use Rattle.std.specs.List.{All, Contains}
 use Rattle.hv_task.specs.declared.action.Action.{Action}
 use Rattle.hv_task.specs.State.{has_atom}
+use Rattle.hv_reach.specs.declared.pair_search.PairSearch.{PairSearch}
 use Rattle.hv_reach.specs.Working.Index.{IsInRest}
 use Rattle.hv_reach.specs.Reached.{HasPairsOf, LeavesAlone, has_pair}
 use Rattle.hv_reach.specs.Working.Waiting.{missing}
@@ -78,13 +79,12 @@ pub record IsPairStep (n : ℕ) (old : List (List Bool)) (flags : List Bool)
   pub falls : moved ≡ true → missing_cells new < missing_cells old
 
 -- pairs came to the table that the actions give, and where none did, no flag was raised
-pub record IsTurn (actions : List Action) (old : List (List Bool)) (flags : List Bool)
-    (new : List (List Bool)) (raised : List Bool) (moved : Bool) : Type 0 where
-  pub grows : (p q : ℕ) → has_pair old p q ≡ true → has_pair new p q ≡ true
-  pub still : moved ≡ false → (x : ℕ) → has_atom raised x ≡ true → has_atom flags x ≡ true
-  pub fewer : missing_cells new ≤ missing_cells old
-  pub falls : moved ≡ true → missing_cells new < missing_cells old
-  pub least : PairsGrowWithin (KeepAllPairs actions) old new
+pub record IsTurn (actions : List Action) (old new : PairSearch) (moved : Bool) : Type 0 where
+  pub grows : (p q : ℕ) → has_pair old.rows.items p q ≡ true → has_pair new.rows.items p q ≡ true
+  pub still : moved ≡ false → (x : ℕ) → has_atom new.flags x ≡ true → has_atom old.flags x ≡ true
+  pub fewer : missing_cells new.rows.items ≤ missing_cells old.rows.items
+  pub falls : moved ≡ true → missing_cells new.rows.items < missing_cells old.rows.items
+  pub least : PairsGrowWithin (KeepAllPairs actions) old.rows.items new.rows.items
 
 -- the flag that is raised where the action may have new work: that of an atom of its precondition,
 -- or that past the atoms where it has none

@@ -15,12 +15,20 @@ turn-moved-requires-clause-search c =
         standing = i.sized.standing;
         mask = i.sized.mask;
         seen = ap length c.set.ensures
-            ∙ (length-set c.loop-round.course.seen c.in-Some.atom true ∙ i.sized.seen);
+            ∙ (length-set c.loop-round.search.course.seen c.in-Some.atom true ∙ i.sized.seen);
       };
     }
 
 pub loop-round-preserved : goal.loop-round-preserved
-loop-round-preserved c = record {
-  turn = turn_both _ _ _ _ _ _ _ _ _ c.loop-round.invariant.turn c.turn-moved.ensures.turn;
-  search = c.turn-moved.ensures.search;
-}
+loop-round-preserved c =
+    let e = c.turn-moved.ensures.turn in
+    record {
+      turn = turn_both _ _ _ c.turn-moved.new.search _ _ c.loop-round.invariant.turn (record {
+        grows = e.grows;
+        still = e.still;
+        fewer = e.fewer;
+        falls = e.falls;
+        least = e.least;
+      });
+      search = c.turn-moved.ensures.search;
+    }

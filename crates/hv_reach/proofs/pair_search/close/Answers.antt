@@ -18,13 +18,12 @@ loop-moved-preserved c =
 pub returns-clause-keeps : goal.returns-clause-keeps
 returns-clause-keeps c =
     let i = c.loop-moved.invariant in
-    keeps_quiet (atoms c.args.task.now) c.args.task.now.actions c.loop-moved.rows.items
-    c.loop-moved.flags i.search.size i.search.ready (i.quiet c.loop-moved-test.false)
+    keeps_quiet (atoms c.args.task.now) c.args.task.now.actions c.loop-moved.search.rows.items
+    c.loop-moved.search.flags i.search.size i.search.ready (i.quiet c.loop-moved-test.false)
 
 pub loop-moved-smaller : goal.loop-moved-smaller
 loop-moved-smaller c =
     rw c.loop-moved-test.true
-    (work_falls c.args.task.now.actions c.loop-moved.rows.items c.settle.new.rows.items
-    c.sweep-moved.new.rows.items c.loop-moved.flags c.settle.new.flags
-    c.sweep-moved.new.flags c.settle.result c.sweep-moved.result c.settle.ensures.turn
+    (work_falls c.args.task.now.actions c.loop-moved.search c.settle.new.search
+    c.sweep-moved.new.search c.settle.result c.sweep-moved.result c.settle.ensures.turn
     c.sweep-moved.ensures.turn)

@@ -8,11 +8,12 @@ use Rattle.hv_reach.proofs.pair_search.close.Given as goal
 
 abbrev pub invariant-loop-moved : goal.invariant-loop-moved
 invariant-loop-moved l = record {
-  search : IsPairSearch l.task l.rows.items l.flags l.course;
-  grows : (p q : ℕ) → has_pair l.fn.rows.items p q ≡ true → has_pair l.rows.items p q ≡ true;
-  quiet : l.moved ≡ false → (x : ℕ) → x ≤ atoms l.task → has_atom l.flags x ≡ false;
-  least : PairsGrowWithin (KeepAllPairs l.task.actions) l.fn.rows.items l.rows.items;
+  search : IsPairSearch l.task l.search;
+  grows : (p q : ℕ) → has_pair l.fn.search.rows.items p q ≡ true → has_pair l.search.rows.items p q
+      ≡ true;
+  quiet : l.moved ≡ false → (x : ℕ) → x ≤ atoms l.task → has_atom l.search.flags x ≡ false;
+  least : PairsGrowWithin (KeepAllPairs l.task.actions) l.fn.search.rows.items l.search.rows.items;
 }
 
 abbrev pub decreases-loop-moved : goal.decreases-loop-moved
-decreases-loop-moved l = missing_cells l.rows.items + cond l.moved 1 0
+decreases-loop-moved l = missing_cells l.search.rows.items + cond l.moved 1 0

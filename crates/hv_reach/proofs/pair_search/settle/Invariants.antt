@@ -4,6 +4,6 @@ use Rattle.hv_reach.proofs.pair_search.settle.Given as goal
 
 abbrev pub invariant-loop-round : goal.invariant-loop-round
 invariant-loop-round l = record {
-  turn : IsTurn l.task.actions l.fn.rows.items l.fn.flags l.rows.items l.flags l.moved;
-  search : IsPairSearch l.task l.rows.items l.flags l.course;
+  turn : IsTurn l.task.actions l.fn.search l.search l.moved;
+  search : IsPairSearch l.task l.search;
 }

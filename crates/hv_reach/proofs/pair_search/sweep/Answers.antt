@@ -6,8 +6,8 @@ loop-flag-preserved c =
     let i = c.loop-flag.invariant in
     let e = c.turn-moved.ensures in
     record {
-      turn = turn_both _ _ _ _ _ _ _ _ _ i.turn e.turn;
-      quiet = quiet_more _ _ _ _ _ c.loop-flag.flag c.loop-flag.moved c.turn-moved.result e.turn
+      turn = turn_both _ _ _ _ _ _ i.turn e.turn;
+      quiet = quiet_more _ _ _ c.loop-flag.flag c.loop-flag.moved c.turn-moved.result e.turn
           i.quiet e.lowered;
       search = e.search;
     }

@@ -6,7 +6,7 @@ use Rattle.hv_reach.proofs.pair_search.sweep.Given as goal
 
 abbrev pub invariant-loop-flag : goal.invariant-loop-flag
 invariant-loop-flag l = record {
-  turn : IsTurn l.task.actions l.fn.rows.items l.fn.flags l.rows.items l.flags l.moved;
-  quiet : l.moved ≡ false → (x : ℕ) → x < l.flag → has_atom l.flags x ≡ false;
-  search : IsPairSearch l.task l.rows.items l.flags l.course;
+  turn : IsTurn l.task.actions l.fn.search l.search l.moved;
+  quiet : l.moved ≡ false → (x : ℕ) → x < l.flag → has_atom l.search.flags x ≡ false;
+  search : IsPairSearch l.task l.search;
 }

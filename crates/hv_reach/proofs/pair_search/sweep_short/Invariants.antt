@@ -5,9 +5,9 @@ use Rattle.hv_reach.proofs.pair_search.sweep_short.Given as goal
 
 abbrev pub invariant-loop-flag : goal.invariant-loop-flag
 invariant-loop-flag l = record {
-  turn : IsTurn l.task.actions l.fn.rows.items l.fn.flags l.rows.items l.flags l.moved;
-  search : IsPairSearch l.task l.rows.items l.flags l.course;
+  turn : IsTurn l.task.actions l.fn.search l.search l.moved;
+  search : IsPairSearch l.task l.search;
 }
 
 abbrev pub decreases-loop-flag : goal.decreases-loop-flag
-decreases-loop-flag l = length l.flags - l.from
+decreases-loop-flag l = length l.search.flags - l.from

@@ -11,7 +11,7 @@ wake-requires-clause-ready c =
     let upto = c.requires.flag in
     rw (c.as_slice-row.ensures.value, c.set.ensures)
     (ready_lowered (atoms c.args.task.now) c.args.task.now.actions c.args.index.now.items
-    c.index.result.now c.args.rows.now.items c.args.flags.now c.args.flag
+    c.index.result.now c.args.search.now.rows.items c.args.search.now.flags c.args.flag
     c.requires.index (slice_get_at c.args.index.now.items c.args.flag c.index.result.now
     (omega arith) c.index.ensures) c.requires.search.ready)
 
@@ -21,8 +21,9 @@ wake-requires-clause-told c =
     let upto = c.requires.flag in
     rw c.set.ensures
     (told_lowered (atoms c.args.task.now) c.args.task.now.actions c.args.index.now.items
-    c.index.result.now c.args.rows.now.items c.args.course.now.told.items c.tell.new.told.items
-    c.args.flags.now c.args.flag c.tell.new.news c.requires.index
+    c.index.result.now c.args.search.now.rows.items c.args.search.now.course.told.items
+    c.tell.new.told.items
+    c.args.search.now.flags c.args.flag c.tell.new.news c.requires.index
     (slice_get_at c.args.index.now.items c.args.flag c.index.result.now (omega arith)
     c.index.ensures) c.requires.search.table c.requires.search.told
     (rw (c.as_slice-row.ensures.value, c.atoms.ensures.atoms) at c.tell.ensures))
@@ -32,22 +33,22 @@ wake-requires-clause-stand c =
     let size = c.requires.index.size in
     let upto = c.requires.flag in
     rw c.as_slice-row.ensures.value
-    (stand_told (atoms c.args.task.now) c.index.result.now.items c.args.rows.now.items
-    c.args.course.now.told.items c.tell.new.told.items c.args.flag c.tell.new.news
+    (stand_told (atoms c.args.task.now) c.index.result.now.items c.args.search.now.rows.items
+    c.args.search.now.course.told.items c.tell.new.told.items c.args.flag c.tell.new.news
     (rw (c.as_slice-row.ensures.value, c.atoms.ensures.atoms) at c.tell.ensures)
     c.args.task.now.actions c.args.index.now.items c.index.result.now
-    c.args.course.now.standing.items c.requires.index
+    c.args.search.now.course.standing.items c.requires.index
     (slice_get_at c.args.index.now.items c.args.flag c.index.result.now (omega arith)
     c.index.ensures) c.requires.search.stand)
 
 pub returns-clause-turn : goal.returns-clause-turn
 returns-clause-turn c =
-    turn_from_step (atoms c.args.task.now) c.args.task.now.actions c.args.rows.now.items
-    c.wake.new.rows.items c.args.flags.now c.wake.new.flags c.args.flag c.wake.result
+    turn_from_step (atoms c.args.task.now) c.args.task.now.actions c.args.search.now
+    c.wake.new.search c.args.flag c.wake.result
     (rw c.set.ensures at c.wake.ensures.step) c.wake.ensures.least
 
 pub returns-clause-lowered : goal.returns-clause-lowered
 returns-clause-lowered c =
-    lowered_after (atoms c.args.task.now) c.args.rows.now.items c.wake.new.rows.items
-    c.args.flags.now c.wake.new.flags c.args.flag c.wake.result
+    lowered_after (atoms c.args.task.now) c.args.search.now.rows.items c.wake.new.search.rows.items
+    c.args.search.now.flags c.wake.new.search.flags c.args.flag c.wake.result
     (rw c.set.ensures at c.wake.ensures.step)

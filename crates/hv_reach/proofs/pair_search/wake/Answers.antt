@@ -11,8 +11,8 @@ use Rattle.hv_reach.proofs.pair_search.wake.Goals as goal
 pub visit-moved-requires-clause-told : goal.visit-moved-requires-clause-told
 visit-moved-requires-clause-told c =
     rw c.atoms.ensures.atoms
-    (told_for (atoms c.args.task.now) c.args.task.now.actions c.loop-number.rows.items
-    c.loop-number.flags c.loop-number.course.told.items
+    (told_for (atoms c.args.task.now) c.args.task.now.actions c.loop-number.search.rows.items
+    c.loop-number.search.flags c.loop-number.search.course.told.items
     (get_or c.args.numbers.now c.loop-number.number-index 0) c.action.result.now
     c.action.ensures.named c.loop-number.invariant.told)
 
@@ -22,11 +22,13 @@ visit-moved-requires-clause-stands c =
     let size = i.sized.standing in
     let below = c.requires.numbers c.loop-number.number-index 0 (omega arith) in
     let x = get_or c.args.numbers.now c.loop-number.number-index 0 in
-    stand_next c.args.numbers.now c.loop-number.number-index x (IsNews c.loop-number.course.news)
-    c.args.task.now.actions c.loop-number.course.told.items c.loop-number.rows.items
-    c.loop-number.course.standing.items c.action.result.now c.index-standing.result.now i.stand
+    stand_next c.args.numbers.now c.loop-number.number-index x (IsNews
+    c.loop-number.search.course.news)
+    c.args.task.now.actions c.loop-number.search.course.told.items c.loop-number.search.rows.items
+    c.loop-number.search.course.standing.items c.action.result.now c.index-standing.result.now
+    i.stand
     c.action.ensures.named
-    (slice_get_at c.loop-number.course.standing.items x c.index-standing.result.now
+    (slice_get_at c.loop-number.search.course.standing.items x c.index-standing.result.now
     (omega arith) c.index-standing.ensures)
 
 pub loop-number-preserved : goal.loop-number-preserved
@@ -35,19 +37,20 @@ loop-number-preserved c =
     let e = c.visit-moved.ensures in
     let n = c.atoms.ensures.atoms in
     let x = get_or c.args.numbers.now c.loop-number.number-index 0 in
-    let old = c.loop-number.course in
+    let old = c.loop-number.search.course in
     let new = c.visit-moved.new.course in
-    let step = subst (λ m. IsPairStep m c.loop-number.rows.items c.loop-number.flags
+    let step = subst (λ m. IsPairStep m c.loop-number.search.rows.items c.loop-number.search.flags
     c.visit-moved.new.rows.items c.visit-moved.new.flags c.visit-moved.result) n e.step in
     let stand = stand_more c.args.numbers.now c.loop-number.number-index x (IsNews old.news)
-    c.args.task.now.actions old.told.items c.loop-number.rows.items c.visit-moved.new.rows.items
+    c.args.task.now.actions old.told.items c.loop-number.search.rows.items
+    c.visit-moved.new.rows.items
     old.standing.items new.standing.items c.action.result.now refl step.grows i.stand
     c.action.ensures.named e.kept.others e.stands in
     record {
       step = pair_step_both _ _ _ _ _ _ _ _ _ i.step step;
       told = rw e.kept.told
           (told_step (atoms c.args.task.now) (IsAskedFor c.args.task.now.actions)
-          c.loop-number.rows.items c.visit-moved.new.rows.items c.loop-number.flags
+          c.loop-number.search.rows.items c.visit-moved.new.rows.items c.loop-number.search.flags
           c.visit-moved.new.flags c.visit-moved.result old.told.items step i.told);
       news = rw e.kept.news i.news;
       sized = record {
@@ -57,8 +60,9 @@ loop-number-preserved c =
       };
       stand = rw (e.kept.news, e.kept.told) stand;
       ready = ready_more (atoms c.args.task.now) c.args.task.now.actions c.args.numbers.now
-          c.loop-number.number-index x c.loop-number.rows.items c.visit-moved.new.rows.items
-          c.loop-number.flags c.visit-moved.new.flags c.visit-moved.result c.action.result.now refl
+          c.loop-number.number-index x c.loop-number.search.rows.items c.visit-moved.new.rows.items
+          c.loop-number.search.flags c.visit-moved.new.flags c.visit-moved.result
+          c.action.result.now refl
           i.step.table step i.ready c.action.ensures.named
           (subst (λ m. HasItsPairs m c.visit-moved.new.rows.items c.visit-moved.new.flags
           c.action.result.now) n e.ready);
@@ -73,12 +77,13 @@ returns-clause-search c =
       table = i.step.table;
       size = i.step.size ∙ c.requires.flags;
       ready = ready_end c.args.numbers.now c.loop-number.number-index (atoms c.args.task.now)
-          c.args.task.now.actions c.loop-number.rows.items c.loop-number.flags (omega arith)
+          c.args.task.now.actions c.loop-number.search.rows.items c.loop-number.search.flags (omega
+          arith)
           i.ready;
       told = i.told;
       stand = stand_end c.args.numbers.now c.loop-number.number-index
-          (IsNews c.loop-number.course.news) c.args.task.now.actions
-          c.loop-number.course.told.items c.loop-number.rows.items
-          c.loop-number.course.standing.items (omega arith) i.stand;
+          (IsNews c.loop-number.search.course.news) c.args.task.now.actions
+          c.loop-number.search.course.told.items c.loop-number.search.rows.items
+          c.loop-number.search.course.standing.items (omega arith) i.stand;
       sized = i.sized;
     }

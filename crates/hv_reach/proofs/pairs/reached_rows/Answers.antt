@@ -32,7 +32,8 @@ turn-requires-clause-search c =
     let sized = subst (λ x. IsSized n x c.in_ok-course.course) c.actions.ensures.actions
     (subst (λ x. IsSized x c.actions.result c.in_ok-course.course) c.atoms-3.ensures.atoms
     e.sized) in
-    subst (λ f. IsPairSearch c.args.task.now c.mark_all.new.rows.items f c.in_ok-course.course)
+    subst (λ f. IsPairSearch c.args.task.now
+    (record { rows = c.mark_all.new.rows; flags = f; course = c.in_ok-course.course }))
     (sym (c.set.ensures ∙ ap (λ x. set c.mark_all.new.flags x true) c.atoms-5.ensures.atoms))
     (record {
       table = step.table;
@@ -66,8 +67,8 @@ returns-clause-reached c = λ p q h r closed.
     (c.turn.ensures.turn.least r closed.even keeps first) p q h
 
 pub returns-clause-all : goal.returns-clause-all
-returns-clause-all c = λ p q h. h (has_pair c.close.new.rows.items)
-    (closed_kept c.args.task.now c.args.start.now (has_pair c.close.new.rows.items)
+returns-clause-all c = λ p q h. h (has_pair c.close.new.search.rows.items)
+    (closed_kept c.args.task.now c.args.start.now (has_pair c.close.new.search.rows.items)
     c.close.ensures.table.even
     (λ x y hx hy. c.close.ensures.grows x y (c.turn.ensures.turn.grows x y
     (paired_listed c.args.start.now c.list_atoms.new.held.items (has_pair c.mark_all.new.rows.items)
