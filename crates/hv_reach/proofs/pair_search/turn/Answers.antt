@@ -22,8 +22,7 @@ wake-requires-clause-told c =
     rw c.set.ensures
     (told_lowered (atoms c.args.task.now) c.args.task.now.actions c.args.index.now.items
     c.index.result.now c.args.search.now.rows.items c.args.search.now.course.told.items
-    c.tell.new.told.items
-    c.args.search.now.flags c.args.flag c.tell.new.news c.requires.index
+    c.tell.new.told.items c.args.search.now.flags c.args.flag c.tell.new.news c.requires.index
     (slice_get_at c.args.index.now.items c.args.flag c.index.result.now (omega arith)
     c.index.ensures) c.requires.search.table c.requires.search.told
     (rw (c.as_slice-row.ensures.value, c.atoms.ensures.atoms) at c.tell.ensures))

@@ -22,12 +22,11 @@ visit-moved-requires-clause-stands c =
     let size = i.sized.standing in
     let below = c.requires.numbers c.loop-number.number-index 0 (omega arith) in
     let x = get_or c.args.numbers.now c.loop-number.number-index 0 in
-    stand_next c.args.numbers.now c.loop-number.number-index x (IsNews
-    c.loop-number.search.course.news)
-    c.args.task.now.actions c.loop-number.search.course.told.items c.loop-number.search.rows.items
+    stand_next c.args.numbers.now c.loop-number.number-index x
+    (IsNews c.loop-number.search.course.news) c.args.task.now.actions
+    c.loop-number.search.course.told.items c.loop-number.search.rows.items
     c.loop-number.search.course.standing.items c.action.result.now c.index-standing.result.now
-    i.stand
-    c.action.ensures.named
+    i.stand c.action.ensures.named
     (slice_get_at c.loop-number.search.course.standing.items x c.index-standing.result.now
     (omega arith) c.index-standing.ensures)
 
@@ -43,9 +42,8 @@ loop-number-preserved c =
     c.visit-moved.new.rows.items c.visit-moved.new.flags c.visit-moved.result) n e.step in
     let stand = stand_more c.args.numbers.now c.loop-number.number-index x (IsNews old.news)
     c.args.task.now.actions old.told.items c.loop-number.search.rows.items
-    c.visit-moved.new.rows.items
-    old.standing.items new.standing.items c.action.result.now refl step.grows i.stand
-    c.action.ensures.named e.kept.others e.stands in
+    c.visit-moved.new.rows.items old.standing.items new.standing.items c.action.result.now refl
+    step.grows i.stand c.action.ensures.named e.kept.others e.stands in
     record {
       step = pair_step_both _ _ _ _ _ _ _ _ _ i.step step;
       told = rw e.kept.told
@@ -62,8 +60,7 @@ loop-number-preserved c =
       ready = ready_more (atoms c.args.task.now) c.args.task.now.actions c.args.numbers.now
           c.loop-number.number-index x c.loop-number.search.rows.items c.visit-moved.new.rows.items
           c.loop-number.search.flags c.visit-moved.new.flags c.visit-moved.result
-          c.action.result.now refl
-          i.step.table step i.ready c.action.ensures.named
+          c.action.result.now refl i.step.table step i.ready c.action.ensures.named
           (subst (λ m. HasItsPairs m c.visit-moved.new.rows.items c.visit-moved.new.flags
           c.action.result.now) n e.ready);
       least = λ r even keeps within. e.least r even
@@ -77,9 +74,8 @@ returns-clause-search c =
       table = i.step.table;
       size = i.step.size ∙ c.requires.flags;
       ready = ready_end c.args.numbers.now c.loop-number.number-index (atoms c.args.task.now)
-          c.args.task.now.actions c.loop-number.search.rows.items c.loop-number.search.flags (omega
-          arith)
-          i.ready;
+          c.args.task.now.actions c.loop-number.search.rows.items c.loop-number.search.flags
+          (omega arith) i.ready;
       told = i.told;
       stand = stand_end c.args.numbers.now c.loop-number.number-index
           (IsNews c.loop-number.search.course.news) c.args.task.now.actions

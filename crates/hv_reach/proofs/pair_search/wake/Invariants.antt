@@ -17,7 +17,6 @@ invariant-loop-number l = record {
   stand : StandAllBut l.numbers l.number-index (IsNews l.search.course.news) l.task.actions
       l.search.course.told.items l.search.rows.items l.search.course.standing.items;
   ready : HaveTheirPairsBut l.numbers l.number-index (atoms l.task) l.task.actions
-      l.search.rows.items
-      l.search.flags;
+      l.search.rows.items l.search.flags;
   least : PairsGrowWithin (KeepAllPairs l.task.actions) l.fn.search.rows.items l.search.rows.items;
 }
