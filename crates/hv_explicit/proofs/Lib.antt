@@ -9,7 +9,6 @@ pub mod Anchored
 pub mod Owned
 pub mod Hits
 pub mod Clashes
-pub mod Wider
 pub mod Holding
 pub mod Walked
 pub mod NoneApplies

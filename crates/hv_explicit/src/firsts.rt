@@ -254,6 +254,3 @@ fn entry_of(places: &[u32], place: usize) -> Option<usize>
         _ => None,
     }
 }
-
-#[cfg(test)]
-mod tests;

@@ -32,6 +32,3 @@ mod state_word;
 pub use explicit::Explicit;
 pub use explicits::Explicits;
 pub use state_walk::StateWalk;
-
-#[cfg(test)]
-mod tests;

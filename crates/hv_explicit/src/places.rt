@@ -367,6 +367,3 @@ fn skip(codes: &[u64], factor: u64, before: &[u32], slots: usize, code: u64, sta
     }
     0
 }
-
-#[cfg(test)]
-mod tests;

@@ -8,6 +8,10 @@ mod dual_horn;
 #[cfg(test)]
 mod horn;
 #[cfg(test)]
+mod listed;
+#[cfg(test)]
+mod meeting_codes;
+#[cfg(test)]
 mod one_head;
 #[cfg(test)]
 mod sets;

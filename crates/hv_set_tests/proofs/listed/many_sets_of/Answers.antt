@@ -1,7 +1,7 @@
 use Rattle.std.proofs.Common.{◌≡◌, ◌∷◌, [], ap, arith, length, length-append, subst, sym}
 use Rattle.std.proofs.lemmas.List.Elements.{All-push}
 use Rattle.hv_explicit.specs.ListedStates.{AreListsOver, ListedStates}
-use Rattle.hv_explicit.proofs.tests.many_sets_of.Goals as goal
+use Rattle.hv_set_tests.proofs.listed.many_sets_of.Goals as goal
 
 pub loop-mask-preserved : goal.loop-mask-preserved
 loop-mask-preserved c =

@@ -1,5 +1,5 @@
-use Rattle.hv_explicit.proofs.Wider.{IsWide}
-use Rattle.hv_explicit.proofs.tests.wide_query_of.Given as goal
+use Rattle.hv_set_tests.proofs.Wider.{IsWide}
+use Rattle.hv_set_tests.proofs.listed.wide_query_of.Given as goal
 
 abbrev pub invariant-loop-number : goal.invariant-loop-number
 invariant-loop-number l = IsWide l.count l.number l.fn.action l.query

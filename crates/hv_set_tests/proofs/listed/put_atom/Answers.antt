@@ -1,5 +1,5 @@
 use Rattle.hv_task.proofs.Rising.{AreBelow-Inserts}
-use Rattle.hv_explicit.proofs.tests.put_atom.Goals as goal
+use Rattle.hv_set_tests.proofs.listed.put_atom.Goals as goal
 
 pub returns : goal.returns
 returns c =

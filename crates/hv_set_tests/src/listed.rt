@@ -1,4 +1,5 @@
-//! Tests of repeated states, and of queries with many sets.
+//! Tests of listed states: repeated ones, ones that were made to meet in one code, and queries with
+//! many sets.
 
 ghost use Rattle.std.specs.Prelude.{◌≡◌, ◌<◌, ◌++◌, ◌∷◌, [], false, None, IfOk, IfSome, OnOk};
 ghost use Rattle.std.specs.Prelude.{length};
@@ -8,7 +9,7 @@ ghost use Rattle.hv_sets.specs.Query.{HasAnchor, IsNamed, IsReady};
 ghost use Rattle.hv_sets.specs.declared.operand.Which.TheVariants as W;
 ghost use Rattle.hv_explicit.specs.ListedStates.{AreListsOver, AreStates};
 
-use crate::{Explicit, Explicits};
+use hv_explicit::{Explicit, Explicits};
 use hv_sets::{
     Family, Finding, Inside, Operand, Operands, Query, Scratch, StateList, StateSet, Which,
 };
@@ -253,7 +254,6 @@ fn holds(alloc: Global, set: &Explicit, code: u32) -> Result<bool, AllocError>
 fn a_repeated_state_is_listed_and_counted(rt: HostRuntime) -> Result<(), Fail> {
     let task = task_of_two(rt.alloc())?;
     let set = one_listed_twice(rt.alloc(), &task)?;
-    assert_eq!(rt; set.firsts().len(), 2);
     assert_eq!(rt; set.inside_count(rt.alloc(), 9)?, 3);
     assert!(rt; holds(rt.alloc(), &set, 2)?);
     assert!(rt; !holds(rt.alloc(), &set, 3)?);

@@ -1,7 +1,7 @@
 use Rattle.std.proofs.Common.{◌+◌, arith, false, refl}
 use Rattle.hv_sets.specs.declared.operand.Which.TheVariants as W
-use Rattle.hv_explicit.proofs.Wider.{wide_first, wide_more}
-use Rattle.hv_explicit.proofs.tests.wide_query_of.Goals as goal
+use Rattle.hv_set_tests.proofs.Wider.{wide_first, wide_more}
+use Rattle.hv_set_tests.proofs.listed.wide_query_of.Goals as goal
 
 pub loop-number-init : goal.loop-number-init
 loop-number-init c =
