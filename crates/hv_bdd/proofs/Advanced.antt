@@ -119,7 +119,7 @@ module _ (list : NodeList) (inside : Bool) where
 
   module _ (reduced : IsReduced list) where
     -- the end that isn't looked for has no state that is
-    not_bad : (s : List Bool) → in_node list (cond inside 0 1) s ≡ inside → ⊥
+    pub not_bad : (s : List Bool) → in_node list (cond inside 0 1) s ≡ inside → ⊥
     not_bad s is = by inside is
       where
         by : (b : Bool) → in_node list (cond b 0 1) s ≡ b → ⊥

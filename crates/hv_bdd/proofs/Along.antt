@@ -1,19 +1,23 @@
 -- Fronts after each of some literals.
 use Rattle.std.proofs.Common.{◌≡◌, ℕ, ◌<◌, ◌≤◌, ◌+◌, ◌∙◌, ◌++◌, ◌&&◌, Bool, true, false}
 use Rattle.std.proofs.Common.{List, [], ◌∷◌, length, get_or, take, refl, sym, ap, arith, inl}
-use Rattle.std.proofs.Common.{inr, subst}
+use Rattle.std.proofs.Common.{inr, subst, suc}
+use Rattle.std.proofs.Math.Seq.{take-suc}
 use Rattle.std.proofs.lemmas.Bool.{and_parts, cases_order, false_from_ne_true}
-use Rattle.std.proofs.lemmas.List.{length_push, length-take-le, take-append-le, take-take}
-use Rattle.std.proofs.lemmas.List.{take_all}
+use Rattle.std.proofs.lemmas.List.{length_push, take-append-le, take_all}
+use Rattle.std.specs.Global.{Vec}
 use Rattle.hv_sets.specs.declared.literal.Literal.{Literal}
+use Rattle.hv_sets.specs.Cubes.{SpeakBelow}
 use Rattle.hv_sets.specs.Truth.{in_cube, in_literal}
 use Rattle.hv_paths.specs.Along.{IsBarren}
-use Rattle.hv_bdd.specs.Nodes.{NodeList}
+use Rattle.hv_bdd.specs.Nodes.{IsNode, NodeList, in_node}
 use Rattle.hv_bdd.specs.declared.level.Level.{Level}
-use Rattle.hv_bdd.specs.Fronts.{AreBelowBound, HoldWanted, IsLevel, StandsAlong}
+use Rattle.hv_bdd.specs.Exclusions.{AreExclusions}
+use Rattle.hv_bdd.specs.Fronts.{AreBelowBound, AreFronts, HoldCube, IsLevel, IsMetNowhere}
+use Rattle.hv_bdd.specs.Fronts.{StandsAlong}
 use Rattle.hv_bdd.specs.Working.Fronts.{GoesDeeper, IsNextLevel, MovesTo, Turns}
 
-in_push : (ls : List Literal) (l : Literal) (s : List Bool)
+pub in_push : (ls : List Literal) (l : Literal) (s : List Bool)
     → in_cube (ls ++ l ∷ []) s ≡ (in_cube ls s && in_literal l s)
 in_push [] l s = by (in_literal l s)
   where
@@ -30,169 +34,190 @@ in_push (x ∷ xs) l s = ap (λ b. in_literal x s && b) (in_push xs l s)
 none_below : (bound : ℕ) → AreBelowBound bound []
 none_below bound k less = absurd (omega (arith, less))
 
-module _ (list : NodeList) (inside : Bool) (wanted : List Bool → Bool) where
+module _ (list : NodeList) (inside : Bool) (node : ℕ) where
   moved_front : (cube : List Literal) (old new : List ℕ) → MovesTo list inside old new
-      → HoldWanted list inside wanted cube old → HoldWanted list inside wanted cube new
-  moved_front cube old new moves front s in_it want =
-      let w = front s in_it want in moves s (w.0) (w.1) (w.2)
+      → HoldCube list inside node cube old → HoldCube list inside node cube new
+  moved_front cube old new moves front s in_it is =
+      let w = front s in_it is in moves s (w.0) (w.1) (w.2)
 
   turned_front : (cube : List Literal) (l : Literal) (old new : List ℕ)
       → Turns list inside l old new
-      → HoldWanted list inside wanted cube old → HoldWanted list inside wanted (cube ++ l ∷ []) new
-  turned_front cube l old new turns front s in_it want =
+      → HoldCube list inside node cube old → HoldCube list inside node (cube ++ l ∷ []) new
+  turned_front cube l old new turns front s in_it is =
       let parts = and_parts (in_cube cube s) (in_literal l s) (sym (in_push cube l s) ∙ in_it) in
-      let w = front s (parts.0) want in turns s (w.0) (parts.1) (w.1) (w.2)
+      let w = front s (parts.0) is in turns s (w.0) (parts.1) (w.1) (w.2)
 
   -- no node is met
-  pub none_left : (atoms : ℕ) (cube : List Literal) (front : List ℕ) → length front ≡ 0
-      → HoldWanted list inside wanted cube front → IsBarren atoms wanted cube
-  none_left atoms cube front none is s of h =
-      false_from_ne_true (wanted s) (λ want.
-      let w = is s h want in absurd (omega (arith, none, (w.1).1)))
+  pub none_met : (cube : List Literal) (front : List ℕ) → length front ≡ 0
+      → HoldCube list inside node cube front → IsMetNowhere list inside node cube
+  none_met cube front none holds s h is =
+      let w = holds s h is in absurd (omega (arith, none, (w.1).1))
 
-  module _ (bound : ℕ) where
-    -- the level is moved, and has a next one
-    pub level_moved : (cube : List Literal) (l : Literal) (old new next : Level)
-        → IsLevel list inside wanted bound cube old
-        → IsNextLevel list inside bound l old new next
-        → IsLevel list inside wanted bound cube new
-    level_moved cube l old new next is step = record {
-      start_below = subst (λ xs. AreBelowBound bound xs) (sym step.same) is.start_below;
-      moved_below = step.moved_below;
-      start = subst (λ xs. HoldWanted list inside wanted cube xs) (sym step.same) is.start;
-      moved = λ _. elim step.moved [
-        | inl m ↦ moved_front cube old.start.items new.moved.items m is.start
-        | inr m ↦ moved_front cube old.moved.items new.moved.items (m.1) (is.moved (m.0))
-      ];
-    }
+  -- so no state that is looked for is in the cube
+  pub none_wanted : (atoms : ℕ) (wanted : List Bool → Bool) (cube : List Literal)
+      → ((s : List Bool) → wanted s ≡ true → in_node list node s ≡ inside)
+      → IsMetNowhere list inside node cube → IsBarren atoms wanted cube
+  none_wanted atoms wanted cube side none s of h =
+      false_from_ne_true (wanted s) (λ want. none s h (side s want))
 
-    pub level_next : (cube : List Literal) (l : Literal) (old new next : Level)
-        → IsLevel list inside wanted bound cube old
-        → IsNextLevel list inside bound l old new next
-        → IsLevel list inside wanted bound (cube ++ l ∷ []) next
-    level_next cube l old new next is step = record {
-      start_below = step.next_below;
-      moved_below = subst (λ xs. AreBelowBound bound xs) (sym step.unready) (none_below bound);
-      start = turned_front cube l new.moved.items next.start.items step.turns (elim step.moved [
-        | inl m ↦ moved_front cube old.start.items new.moved.items m is.start
-        | inr m ↦ moved_front cube old.moved.items new.moved.items (m.1) (is.moved (m.0))
-      ]);
-      moved = λ e. absurd (step.next_unready e);
-    }
+  -- the level is moved, and has a next one
+  level_moved : (cube : List Literal) (l : Literal) (old new next : Level)
+      → IsLevel list inside node cube old
+      → IsNextLevel list inside (node + 1) l old new next
+      → IsLevel list inside node cube new
+  level_moved cube l old new next is step = record {
+    start_below = subst (λ xs. AreBelowBound (node + 1) xs) (sym step.same) is.start_below;
+    moved_below = step.moved_below;
+    start = subst (λ xs. HoldCube list inside node cube xs) (sym step.same) is.start;
+    moved = λ _. elim step.moved [
+      | inl m ↦ moved_front cube old.start.items new.moved.items m is.start
+      | inr m ↦ moved_front cube old.moved.items new.moved.items (m.1) (is.moved (m.0))
+    ];
+  }
 
-module _ (list : NodeList) (inside : Bool) where
-  front_same : (w v : List Bool → Bool) → ((s : List Bool) → v s ≡ w s) → (cube : List Literal)
-      (front : List ℕ) → HoldWanted list inside w cube front → HoldWanted list inside v cube front
-  front_same w v same cube front is s in_it want = is s in_it (sym (same s) ∙ want)
+  level_next : (cube : List Literal) (l : Literal) (old new next : Level)
+      → IsLevel list inside node cube old
+      → IsNextLevel list inside (node + 1) l old new next
+      → IsLevel list inside node (cube ++ l ∷ []) next
+  level_next cube l old new next is step = record {
+    start_below = step.next_below;
+    moved_below = subst (λ xs. AreBelowBound (node + 1) xs) (sym step.unready)
+        (none_below (node + 1));
+    start = turned_front cube l new.moved.items next.start.items step.turns (elim step.moved [
+      | inl m ↦ moved_front cube old.start.items new.moved.items m is.start
+      | inr m ↦ moved_front cube old.moved.items new.moved.items (m.1) (is.moved (m.0))
+    ]);
+    moved = λ e. absurd (step.next_unready e);
+  }
 
-  -- the same question, told by equal functions
-  pub along_same : (atoms atoms' : ℕ) (w v : List Bool → Bool) (ls ls' : List Literal)
-      (bound : ℕ) (levels : List Level) (refuted : Bool)
-      → atoms' ≡ atoms → ((s : List Bool) → v s ≡ w s) → ls' ≡ ls
-      → StandsAlong list inside atoms w ls bound levels refuted
-      → StandsAlong list inside atoms' v ls' bound levels refuted
-  along_same atoms atoms' w v ls ls' bound levels refuted e same f is =
-      subst (λ n. StandsAlong list inside n v ls' bound levels refuted) (sym e)
-      (subst (λ xs. StandsAlong list inside atoms v xs bound levels refuted) (sym f) (record {
-        over = is.over;
-        few = is.few;
-        sizes = is.sizes;
-        each = λ i d less.
-            let l = is.each i d less in
-            record {
-              start_below = l.start_below;
-              moved_below = l.moved_below;
-              start = front_same w v same (take i ls) (get_or levels i d).start.items l.start;
-              moved = λ r. front_same w v same (take i ls) (get_or levels i d).moved.items
-                  (l.moved r);
-            };
-        none = λ r s of h. same s ∙ is.none r s of h;
-      }))
+  -- there is one more level
+  pub fronts_more : (ls : List Literal) (l : Literal) (place : ℕ) (levels levels' : List Level)
+      → place < length ls → get_or ls place l ≡ l → AreFronts list inside node ls place levels
+      → GoesDeeper list inside (node + 1) l place levels levels'
+      → AreFronts list inside node ls (place + 1) levels'
+  fronts_more ls l place levels levels' less at is deeper = record {
+    within = is.within;
+    few = omega (arith, less);
+    sizes = deeper.size;
+    each = each;
+  }
+    where
+      here : (d : Level) → IsLevel list inside node (take place ls) (get_or levels place d)
+      here d = is.each place d (omega arith)
 
-  module _ (atoms : ℕ) (wanted : List Bool → Bool) where
-    pub along_back : (ls : List Literal) (bound : ℕ) (levels : List Level) (refuted : Bool)
-        (depth : ℕ) → depth < length ls
-        → StandsAlong list inside atoms wanted ls bound levels refuted
-        → StandsAlong list inside atoms wanted (take depth ls) bound levels false
-    along_back ls bound levels refuted depth less is =
-        let few = length-take-le depth ls (omega (arith, less)) in
-        record {
-          over = is.over;
-          few = is.few;
-          sizes = omega (arith, few, is.sizes, less);
-          each = λ i d upto.
-              subst (λ xs. IsLevel list inside wanted bound xs (get_or levels i d))
-              (sym (take-take i depth ls (omega (arith, upto, few))))
-              (is.each i d (omega (arith, upto, few, less)));
-          none = λ r. let f : false ≡ true = r in absurd cc;
-        }
+      more : take place ls ++ l ∷ [] ≡ take (place + 1) ls
+      more =
+          let e : suc place ≡ place + 1 = omega arith in
+          ap (λ x. take place ls ++ x ∷ []) (sym at)
+          ∙ (sym (take-suc ls place l less) ∙ ap (λ n. take n ls) e)
 
-    -- some level
-    some_level : (levels : List Level) → 0 < length levels → Level
-    some_level [] less = absurd (omega (arith, less))
-    some_level (level ∷ levels) less = level
+      each : (i : ℕ) (d : Level) → i ≤ place + 1
+          → IsLevel list inside node (take i ls) (get_or levels' i d)
+      each i d upto = elim (cases_order i place) [
+        | inl same ↦
+            subst (λ j. IsLevel list inside node (take j ls) (get_or levels' j d)) (sym same)
+            (level_moved (take place ls) l (get_or levels place d) (get_or levels' place d)
+            (get_or levels' (place + 1) d) (here d) (deeper.next d))
+        | inr (inl early) ↦
+            subst (λ x. IsLevel list inside node (take i ls) x)
+            (sym (deeper.before i d early)) (is.each i d (omega (arith, early)))
+        | inr (inr late) ↦
+            let end : i ≡ place + 1 = omega (arith, late, upto) in
+            subst (λ j. IsLevel list inside node (take j ls) (get_or levels' j d)) (sym end)
+            (subst (λ xs. IsLevel list inside node xs (get_or levels' (place + 1) d)) more
+            (level_next (take place ls) l (get_or levels place d) (get_or levels' place d)
+            (get_or levels' (place + 1) d) (here d) (deeper.next d)))
+      ]
 
-    pub along_more : (ls : List Literal) (l : Literal) (bound : ℕ) (levels levels' : List Level)
-        (refuted refuted' : Bool)
-        → StandsAlong list inside atoms wanted ls bound levels refuted
-        → GoesDeeper list inside bound l (length ls) levels levels'
-        → (refuted' ≡ true → (d : Level)
-        → length (get_or levels' (length ls + 1) d).start.items ≡ 0)
-        → StandsAlong list inside atoms wanted (ls ++ l ∷ []) bound levels' refuted'
-    along_more ls l bound levels levels' refuted refuted' is deeper none = record {
-      over = is.over;
-      few = is.few;
-      sizes = omega (arith, deeper.size, more);
-      each = each;
-      none = λ r. none_left list inside wanted atoms (ls ++ l ∷ [])
-          (get_or levels' (length ls + 1) some).start.items (none r some) (last some).start;
-    }
-      where
-        more : length (ls ++ l ∷ []) ≡ length ls + 1
-        more = length_push ls l
+  -- the first of them are those of other literals that begin in the same way
+  pub fronts_kept : (ls ls' : List Literal) (reached reached' : ℕ) (levels : List Level)
+      → reached' ≤ reached → reached' ≤ length ls'
+      → ((i : ℕ) → i ≤ reached' → take i ls ≡ take i ls')
+      → AreFronts list inside node ls reached levels
+      → AreFronts list inside node ls' reached' levels
+  fronts_kept ls ls' reached reached' levels less few same is = record {
+    within = is.within;
+    few = few;
+    sizes = omega (arith, less, is.sizes);
+    each = λ i d upto.
+        subst (λ xs. IsLevel list inside node xs (get_or levels i d)) (same i upto)
+        (is.each i d (omega (arith, less, upto)));
+  }
 
-        some : Level
-        some = some_level levels' (omega (arith, deeper.size))
+  -- that before any literal
+  pub fronts_none : (ls : List Literal) (reached : ℕ) (levels : List Level)
+      → AreFronts list inside node ls reached levels → AreFronts list inside node [] 0 levels
+  fronts_none ls reached levels is =
+      fronts_kept ls [] reached 0 levels (omega arith) (omega arith)
+      (λ i upto. let e : 0 ≡ i = omega (arith, upto) in
+      subst (λ n. take n ls ≡ take n []) e refl) is
 
-        here : (d : Level) → IsLevel list inside wanted bound ls (get_or levels (length ls) d)
-        here d = subst (λ xs. IsLevel list inside wanted bound xs (get_or levels (length ls) d))
-            (take_all (length ls) ls (omega arith)) (is.each (length ls) d (omega arith))
+  -- that after one literal
+  pub level_after : (l : Literal) (reached : ℕ) (levels : List Level) (level : Level)
+      → AreFronts list inside node (l ∷ []) reached levels → reached ≡ 1
+      → get_or levels 1 level ≡ level → IsLevel list inside node (l ∷ []) level
+  level_after l reached levels level are is at =
+      subst (IsLevel list inside node (l ∷ [])) at
+      (subst (λ xs. IsLevel list inside node xs (get_or levels 1 level))
+      (take_all 1 (l ∷ []) (omega arith)) (are.each 1 level (omega (arith, is))))
 
-        last : (d : Level) → IsLevel list inside wanted bound (ls ++ l ∷ [])
-            (get_or levels' (length ls + 1) d)
-        last d = level_next list inside wanted bound ls l (get_or levels (length ls) d)
-            (get_or levels' (length ls) d) (get_or levels' (length ls + 1) d) (here d)
-            (deeper.next d)
+  -- a literal more, whose level isn't made
+  pub fronts_pushed : (old new : List Literal) (l : Literal) (reached : ℕ) (levels : List Level)
+      → new ≡ old ++ l ∷ [] → AreFronts list inside node old reached levels
+      → AreFronts list inside node new reached levels
+  fronts_pushed old new l reached levels is front =
+      let size = ap length is ∙ length_push old l in
+      let few = front.few in
+      fronts_kept old new reached reached levels (omega arith) (omega (arith, size, few))
+      (λ i upto. sym (take-append-le i old (l ∷ []) (omega (arith, upto, few)))
+      ∙ ap (take i) (sym is))
+      front
 
-        moved : (d : Level) → IsLevel list inside wanted bound ls (get_or levels' (length ls) d)
-        moved d = level_moved list inside wanted bound ls l (get_or levels (length ls) d)
-            (get_or levels' (length ls) d) (get_or levels' (length ls + 1) d) (here d)
-            (deeper.next d)
+  -- that of the node itself
+  pub fronts_first : (ls : List Literal) (level : Level) (levels : List Level)
+      → IsNode list node → levels ≡ level ∷ [] → level.start.items ≡ node ∷ []
+      → level.moved.items ≡ node ∷ [] → AreFronts list inside node ls 0 levels
+  fronts_first ls level levels within is start moved = record {
+    within = within;
+    few = omega arith;
+    sizes = subst (λ xs. 0 < length xs) (sym is) (omega arith);
+    each = λ i d upto.
+        let e : 0 ≡ i = omega (arith, upto) in
+        subst (λ j. IsLevel list inside node (take j ls) (get_or levels j d)) e
+        (subst (λ xs. IsLevel list inside node [] (get_or xs 0 d)) (sym is) one);
+  }
+    where
+      below : AreBelowBound (node + 1) (node ∷ [])
+      below k less =
+          let e : 0 ≡ k = omega (arith, less) in
+          subst (λ j. get_or (node ∷ []) j 0 < node + 1) e (omega arith)
 
-        -- the first literals stay
-        front : (i : ℕ) (level : Level) → i ≤ length ls
-            → IsLevel list inside wanted bound (take i ls) level
-            → IsLevel list inside wanted bound (take i (ls ++ l ∷ [])) level
-        front i level upto h = subst (λ xs. IsLevel list inside wanted bound xs level)
-            (sym (take-append-le i ls (l ∷ []) upto)) h
+      holds : HoldCube list inside node [] (node ∷ [])
+      holds s h is = (node, (0, omega arith, refl), is)
 
-        each : (i : ℕ) (d : Level) → i ≤ length (ls ++ l ∷ [])
-            → IsLevel list inside wanted bound (take i (ls ++ l ∷ [])) (get_or levels' i d)
-        each i d upto = elim (cases_order i (length ls)) [
-          | inl same ↦
-              front i (get_or levels' i d) (omega (arith, same))
-              (subst (λ j. IsLevel list inside wanted bound (take j ls) (get_or levels' j d))
-              (sym same)
-              (subst (λ xs. IsLevel list inside wanted bound xs (get_or levels' (length ls) d))
-              (sym (take_all (length ls) ls (omega arith))) (moved d)))
-          | inr (inl early) ↦
-              front i (get_or levels' i d) (omega (arith, early))
-              (subst (λ x. IsLevel list inside wanted bound (take i ls) x)
-              (sym (deeper.before i d early)) (is.each i d (omega (arith, early))))
-          | inr (inr late) ↦
-              let end : i ≡ length ls + 1 = omega (arith, late, upto, more) in
-              subst (λ xs. IsLevel list inside wanted bound xs (get_or levels' i d))
-              (sym (take_all i (ls ++ l ∷ []) (omega (arith, end, more))))
-              (subst (λ j. IsLevel list inside wanted bound (ls ++ l ∷ []) (get_or levels' j d))
-              (sym end) (last d))
-        ]
+      one : IsLevel list inside node [] level
+      one = record {
+        start_below = subst (λ xs. AreBelowBound (node + 1) xs) (sym start) below;
+        moved_below = subst (λ xs. AreBelowBound (node + 1) xs) (sym moved) below;
+        start = subst (λ xs. HoldCube list inside node [] xs) (sym start) holds;
+        moved = λ r. subst (λ xs. HoldCube list inside node [] xs) (sym moved) holds;
+      }
+
+  -- the same question after a call
+  pub along_again : (atoms atoms' : ℕ) (wanted wanted' : List Bool → Bool)
+      (assumed literals : List Literal) (reached : ℕ) (levels : List Level)
+      (table : List (Vec ℕ)) (refuted : Bool) → atoms ≡ list.atoms → atoms' ≡ atoms
+      → ((s : List Bool) → wanted' s ≡ wanted s) → assumed ≡ literals
+      → SpeakBelow list.atoms literals → AreFronts list inside node literals reached levels
+      → AreExclusions list inside node table
+      → (refuted ≡ true → IsBarren atoms wanted literals)
+      → StandsAlong list inside node atoms' wanted' assumed literals reached levels table refuted
+  along_again atoms atoms' wanted wanted' assumed literals reached levels table refuted over equal
+      same is below fronts known none = record {
+        over = equal ∙ over;
+        same = is;
+        below = below;
+        fronts = fronts;
+        known = known;
+        none = λ r s of h. same s ∙ none r s (of ∙ equal) h;
+      }

@@ -35,4 +35,5 @@ pub mod Advanced
 pub mod Along
 pub mod Jumped
 pub mod Alike
+pub mod Excluded
 pub mod Moving

@@ -1,4 +1,5 @@
 pub mod Building
+pub mod Exclusions
 pub mod Fronts
 pub mod Jumps
 pub mod Live

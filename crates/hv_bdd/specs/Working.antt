@@ -17,6 +17,7 @@ pub mod Walking
 pub mod Cubed
 pub mod Laws
 pub mod Digits
+pub mod Excluding
 pub mod Fronts
 pub mod Jumping
 pub mod Untouched

@@ -7,6 +7,13 @@
 //! of a walk don't go by the order of the diagram, a prefix is refuted later, and the question that
 //! is wrapped answers. A question that is wrapped so only gets a refutation more. A listed state is
 //! asked of the node itself, and the question that is wrapped only about one that may be wanted.
+//!
+//! A literal that is true in nearly all states leaves a front as wide as the diagram, and such a
+//! front is moved down anew for each literal with which a cube goes on. Two literals of most of
+//! these cubes exclude each other. So once the fronts have moved as many nodes as it costs to find
+//! out all exclusions, that is done (`node_exclusions.rt`), and from then on two such literals
+//! refute a cube by one look: the fronts after its first literals are made only once there are a
+//! few, or once all are assumed and the question that is wrapped has to answer.
 
 ghost use Rattle.std.specs.Prelude.{◌≡◌, ◌<◌, ◌≤◌, [], Bool, List, IfOk, true, not, ◌&&◌, length};
 ghost use Rattle.hv_bdd.specs.Nodes.{IsNode, in_node};
@@ -15,13 +22,16 @@ ghost use Rattle.hv_bdd.specs.Jumps.{StandsAtNode};
 
 use crate::diagrams::Diagrams;
 use crate::jumps::Jumps;
-use crate::level::{Level, NodeSide, deepen};
+use crate::level::NodeSide;
+use crate::node_exclusions::{COMPARED, Exclusions};
+use crate::node_fronts::Fronts;
 use hv_paths::Asker;
 use hv_sets::{Literal, Scratch};
 use hv_task::State;
 use std::alloc::{AllocError, Global};
 
-/// A question beside which stands which nodes are met after each literal.
+/// A question beside which stands which nodes are met after each literal, and which two literals
+/// exclude each other, once that is found out.
 #[derive(Drop)]
 pub struct FrontAsk<'a, A: Asker + Drop> {
     asked: A,
@@ -29,14 +39,10 @@ pub struct FrontAsk<'a, A: Asker + Drop> {
     node: u32,
     inside: bool,
     jumps: Jumps,
-    // The nodes that can be met are below this number.
-    bound: usize,
-    // Where each of them was put last, from the first literal on.
-    places: Vec<u32>,
-    // One level after each literal, and others that are filled again.
-    levels: Vec<Level>,
-    // A list to write to.
-    spare: Vec<u32>,
+    // What is assumed.
+    literals: Vec<Literal>,
+    fronts: Fronts,
+    exclusions: Exclusions,
     refuted: bool,
 }
 
@@ -62,19 +68,18 @@ impl<'a, A: Asker + Drop> FrontAsk<'a, A> {
         ensures wanted { IfOk result (λ ask. (s : List Bool)
             → ⟦<FrontAsk<'a, A> as Asker>⟧.wanted ask s ≡ A.wanted asked s) }
     {
-        let mut levels = Vec::new(alloc);
-        let level = Level::of(alloc, node)?;
-        levels.push(level)?;
+        let fronts = Fronts::of(alloc, node)?;
         Ok(FrontAsk {
             asked,
             nodes,
             node,
             inside,
             jumps: Jumps::none(alloc),
-            bound: node as usize + 1,
-            places: Vec::new(alloc),
-            levels,
-            spare: Vec::new(alloc),
+            literals: Vec::new(alloc),
+            fronts,
+            exclusions: Exclusions {
+                words: Vec::new(alloc),
+            },
             refuted: false,
         })
     }
@@ -86,8 +91,9 @@ impl<'a, A: Asker + Drop> Asker for FrontAsk<'a, A> {
     ghost wanted = { λ q. A.wanted q.asked };
 
     ghost stands = { λ q. A.stands q.asked
-        × StandsAlong q.nodes.now q.inside (A.atoms q.asked) (A.wanted q.asked)
-        (A.assumed q.asked) q.bound q.levels.items q.refuted
+        × StandsAlong q.nodes.now q.inside q.node (A.atoms q.asked) (A.wanted q.asked)
+        (A.assumed q.asked) q.literals.items q.fronts.reached q.fronts.levels.items
+        q.exclusions.words.items q.refuted
         × StandsAtNode q.nodes.now q.inside (A.wanted q.asked) q.node q.jumps.to.items };
 
     ghost assumed = { λ q. A.assumed q.asked };
@@ -103,31 +109,43 @@ impl<'a, A: Asker + Drop> Asker for FrontAsk<'a, A> {
     }
 
     fn assume(&mut self, literal: Literal) -> Result<(), AllocError> {
-        let depth = self.asked.depth();
-        self.places.resize(self.bound, 0)?;
         let side = NodeSide {
             nodes: self.nodes,
             inside: self.inside,
         };
-        let none = deepen(
-            &side,
-            &mut self.levels,
-            depth,
-            &mut self.places,
-            &mut self.spare,
-            literal,
-        )?;
         self.asked.assume(literal)?;
+        let known = self.exclusions.learn(&side, self.node, self.fronts.moved)?;
+        let excluded = self.exclusions.exclude(self.literals.as_slice(), literal);
+        self.literals.push(literal)?;
+        if excluded || known && self.literals.len() < COMPARED {
+            self.refuted = excluded;
+            return Ok(());
+        }
+        let none = self
+            .fronts
+            .follow(&side, self.node, self.literals.as_slice())?;
         self.refuted = none;
         Ok(())
     }
 
     fn take_back(&mut self, depth: usize) {
         self.asked.take_back(depth);
+        self.literals.truncate(depth);
+        self.fronts.reached = self.fronts.reached.min(depth);
         self.refuted = false;
     }
 
     fn meets(&mut self, alloc: Global, scratch: &mut Scratch) -> Result<bool, AllocError> {
+        let side = NodeSide {
+            nodes: self.nodes,
+            inside: self.inside,
+        };
+        if self
+            .fronts
+            .follow(&side, self.node, self.literals.as_slice())?
+        {
+            return Ok(false);
+        }
         let yes = self.asked.meets(alloc, scratch)?;
         Ok(yes)
     }

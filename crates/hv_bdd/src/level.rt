@@ -67,9 +67,8 @@ impl Level {
     }
 }
 
-// Makes the level after the one at this depth, for one more literal. The answer is whether no node
-// is met there. The lists of a level that was taken back are filled again; `spare` is one to write
-// to.
+// Makes the level after the one at this depth, for one more literal. The lists of a level that was
+// taken back are filled again; `spare` is one to write to.
 pub(crate) fn deepen(
     side: &NodeSide<'_>,
     levels: &mut Vec<Level>,
@@ -77,7 +76,7 @@ pub(crate) fn deepen(
     places: &mut Vec<u32>,
     spare: &mut Vec<u32>,
     literal: Literal,
-) -> Result<bool, AllocError>
+) -> Result<(), AllocError>
     requires atom { literal.atom < side.now.nodes.now.atoms }
     requires bound { length places.old.items ≤ node_count side.now.nodes.now }
     requires depth { depth < length levels.old.items }
@@ -87,16 +86,13 @@ pub(crate) fn deepen(
         (slice_index_or levels.old.items depth d).moved.items }
     ensures deeper { OnOk result (GoesDeeper side.now.nodes.now side.now.inside
         (length places.old.items) literal depth levels.old.items levels.new.items) }
-    ensures none { IfOk result (λ none. none ≡ true → (d : Level)
-        → length (slice_index_or levels.new.items (depth + 1) d).start.items ≡ 0) }
 {
     let alloc = *levels.allocator();
     make_room(alloc, levels, depth)?;
     let mut next = mem::replace(&mut levels[depth + 1], Level::none(alloc));
     next_level(side, &mut levels[depth], places, spare, literal, &mut next)?;
-    let none = next.is_met_nowhere();
     levels[depth + 1] = next;
-    Ok(none)
+    Ok(())
 }
 
 // Sees to it that there is a level after the one at this depth.

@@ -44,6 +44,8 @@ mod jumps;
 pub mod laws;
 mod level;
 pub mod node;
+mod node_exclusions;
+mod node_fronts;
 pub mod node_inquiry;
 mod node_listing;
 mod node_queries;
