@@ -2,18 +2,19 @@
 use Rattle.std.proofs.Common.{◌≡◌, ℕ, suc, ◌+◌, ◌<◌, ◌≤◌, ◌∙◌, Bool, true, false, ◌&&◌, not, Option}
 use Rattle.std.proofs.Common.{Some, None, List, [], ◌∷◌, length, set, get_or, refl, sym}
 use Rattle.std.proofs.Common.{ap, arith, inl, inr, subst, ◌⊎◌}
-use Rattle.std.proofs.lemmas.Bool.{cases_Bool, cases_eq, and_parts, not-true}
+use Rattle.std.proofs.lemmas.Bool.{cases_Bool, cases_eq, cases_lt, and_parts, not-true}
 use Rattle.std.proofs.lemmas.List.{length-set, get_or-set_other}
-use Rattle.std.proofs.lemmas.List.{get_or_default}
+use Rattle.std.proofs.lemmas.List.{get_or_default, get_or_past}
 use Rattle.std.proofs.lemmas.Grind.{get_or-set_at}
 use Rattle.std.specs.List.{All}
 use Rattle.hv_task.specs.Atoms.{IsNext}
-use Rattle.hv_task.specs.State.{has_atom}
+use Rattle.hv_task.specs.State.{has_atom, state_of}
 use Rattle.hv_task.proofs.Listing.{within_state}
+use Rattle.hv_task.proofs.Places.{has_atom-state_of, has_atom_past, length-state_of}
 use Rattle.hv_reach.proofs.Sets.{missing_set, set_cases, set_grows, set_has}
 use Rattle.hv_reach.specs.Reached.{has_pair}
 use Rattle.hv_reach.specs.Working.NoteRows.{AreColumns}
-use Rattle.hv_reach.specs.Working.Table.{AreRaised, IsNextNew, IsPairStep, IsPairTable}
+use Rattle.hv_reach.specs.Working.Table.{AreRaised, IsNextNew, IsPairStep, IsPairTable, IsSquare}
 use Rattle.hv_reach.specs.Working.Table.{missing_cells, set_at, set_both}
 use Rattle.hv_reach.specs.Working.Waiting.{missing}
 
@@ -220,6 +221,57 @@ table_none n rows size wide none = record {
   even = λ p q h. let e = none p q in absurd cc;
   whole = λ p q h. let e = none p q in absurd cc;
 }
+
+-- a row of which all atoms were taken out
+pub row_cleared : (n : ℕ) (rows : List (List Bool)) (x : ℕ) → x < length rows → IsSquare n rows
+    → ((p q : ℕ) → p < x → has_pair rows p q ≡ false)
+    → IsSquare n (set rows x (state_of (length (get_or rows x [])) []))
+    × ((p q : ℕ) → p < x + 1
+    → has_pair (set rows x (state_of (length (get_or rows x [])) [])) p q ≡ false)
+row_cleared n rows x less square none = (
+  record {
+    size = length-set rows x empty ∙ square.size;
+    each = λ i d within.
+        let in_rows : i < length rows = omega (arith, within, length-set rows x empty) in
+        elim (cases_eq x i) [
+          | inl e ↦ subst (λ (r : List Bool). length r ≡ n)
+              (sym (get_or-set_at rows x i empty d (sym e) less))
+              (length-state_of (length (get_or rows x [])) [] ∙ square.each x [] less)
+          | inr e ↦ subst (λ (r : List Bool). length r ≡ n)
+              (sym (get_or-set_other rows x i empty d (λ f. e (sym f))))
+              (square.each i d in_rows)
+        ];
+  },
+  λ p q upto.
+      elim (cases_eq x p) [
+        | inl e ↦ ap (λ (r : List Bool). has_atom r q)
+            (get_or-set_at rows x p empty [] (sym e) less) ∙ holds_none q
+        | inr e ↦ ap (λ (r : List Bool). has_atom r q)
+            (get_or-set_other rows x p empty [] (λ f. e (sym f)))
+            ∙ none p q (omega (arith, e, upto))
+      ],
+)
+  where
+    empty : List Bool
+    empty = state_of (length (get_or rows x [])) []
+
+    holds_none : (q : ℕ) → has_atom empty q ≡ false
+    holds_none q =
+        elim (cases_lt q (length (get_or rows x []))) [
+          | inl lt ↦ has_atom-state_of (length (get_or rows x [])) [] q lt
+          | inr ge ↦ has_atom_past empty q
+              (omega (arith, ge, length-state_of (length (get_or rows x [])) []))
+        ]
+
+-- where no row of the table has an atom
+pub none_left : (n : ℕ) (rows : List (List Bool)) → length rows ≡ n
+    → ((p q : ℕ) → p < n → has_pair rows p q ≡ false) → (p q : ℕ) → has_pair rows p q ≡ false
+none_left n rows size none p q =
+    elim (cases_lt p n) [
+      | inl lt ↦ none p q lt
+      | inr ge ↦ ap (λ (r : List Bool). has_atom r q)
+          (get_or_past rows p [] (omega (arith, ge, size)))
+    ]
 
 -- what is in the one set and not outside the other
 pub in_both : (a b : Bool) → (a && not b) ≡ false → a ≡ true → b ≡ true

@@ -14,6 +14,7 @@ use Rattle.std.specs.Option.{IfSome}
 use Rattle.hv_task.specs.declared.action.Action.{Action}
 use Rattle.hv_task.specs.Atoms.{IsNext}
 use Rattle.hv_task.specs.State.{AreBelow, has_atom, names_atom}
+use Rattle.hv_task.specs.Strips.{Strips, atoms}
 use Rattle.hv_task.proofs.Listing.{within_state}
 use Rattle.hv_task.proofs.Places.{names_atom-Decides}
 use Rattle.hv_task.proofs.Rising.{rises_apart}
@@ -26,12 +27,13 @@ use Rattle.hv_reach.specs.declared.pair_course.Lack.{Lack}
 use Rattle.hv_reach.specs.declared.pair_course.News.{News}
 use Rattle.hv_reach.specs.declared.pair_course.ActionStanding.{ActionStanding}
 use Rattle.hv_reach.specs.declared.pair_course.ActionStanding.TheVariants as S
+use Rattle.hv_reach.specs.declared.pair_search.PairSearch.{PairSearch}
 use Rattle.hv_reach.specs.Index.{IsActionIndex, IsIn}
 use Rattle.hv_reach.specs.Reached.{HasPairsOf, LeavesAlone, has_pair}
 use Rattle.hv_reach.specs.Working.Course.{ArePairedBefore, IsAskedFor, IsGlance}
-use Rattle.hv_reach.specs.Working.Course.{IsLack, IsNews, IsServed}
+use Rattle.hv_reach.specs.Working.Course.{IsLack, IsNews, IsPairSearch, IsServed, IsSpaceFor}
 use Rattle.hv_reach.specs.Working.Course.{IsTelling, IsRowTold, StandAll, StandAllBut, StandsSo}
-use Rattle.hv_reach.specs.Working.Table.{HasItsPairs, IsJoined, IsPairStep, IsPairTable}
+use Rattle.hv_reach.specs.Working.Table.{HasItsPairs, IsJoined, IsPairStep, IsPairTable, IsSquare}
 
 -- every pair of the old table is in the new one
 abbrev pub Grows : List (List Bool) → List (List Bool) → Type 0
@@ -487,8 +489,26 @@ stands_entered told rows a (S.Ready glance) glances lacks served =
     let g = glances glance refl in
     (g, served (let less = g.0.1 in omega arith))
 
+-- a table is square
+pub square : (n : ℕ) (rows : List (List Bool)) → IsPairTable n rows → IsSquare n rows
+square n rows table = record { size = table.size; each = table.each }
+
+-- what a search leaves is space for the next one
+pub space_left : (task : Strips) (search : PairSearch) → IsPairSearch task search
+    → IsSpaceFor (atoms task) search
+space_left task search is = record {
+  rows = square (atoms task) search.rows.items is.table;
+  flags = is.size;
+  course = record {
+    told = record { size = is.told.size; each = is.told.each };
+    mask = is.sized.mask;
+    seen = is.sized.seen;
+  };
+}
+
 -- where nothing is known
-pub stand_new : (actions : List Action) (told rows : List (List Bool)) (standing : List ActionStanding)
+pub stand_new : (actions : List Action) (told rows : List (List Bool))
+    (standing : List ActionStanding)
     → length standing ≡ length actions
     → ((k : ℕ) → k < length actions → slice_get standing k ≡ Some S.New)
     → StandAll (λ q. ⊥) actions told rows standing

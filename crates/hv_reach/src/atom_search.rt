@@ -5,19 +5,21 @@
 //! that place. So each action goes over its precondition once, and the work is linear in the task.
 
 ghost use Rattle.std.specs.Prelude.{◌≡◌, ◌<◌, ◌≤◌, ◌↔◌, ◌⊎◌, ℕ, Bool, true, false, length, Some};
-ghost use Rattle.std.specs.Prelude.{IfOk, OnOk, slice_get, slice_index};
+ghost use Rattle.std.specs.Prelude.{IfOk, IfSome, IsTrue, OnOk, is_some, slice_get, slice_index};
 ghost use Rattle.std.specs.List.{Contains};
 ghost use Rattle.hv_task.specs.declared.action.Action.{Action};
 ghost use Rattle.hv_task.specs.State.{AreBelow, has_atom};
 ghost use Rattle.hv_task.specs.Strips.{IsState, atoms};
 ghost use Rattle.hv_reach.specs.Reached.{AreIn, Keeps, ReachedAtom};
 ghost use Rattle.hv_reach.specs.Index.{AreSearchRowsOf, IsTaskIndex};
+ghost use Rattle.hv_reach.specs.Written.{RelaxedExcludesFrom};
 ghost use Rattle.hv_reach.specs.Working.Passed.{AreZeros};
 ghost use Rattle.hv_reach.specs.Working.Waiting.{AreActionsSettled, AreActionsSettledBut};
 ghost use Rattle.hv_reach.specs.Working.Waiting.{GrowsWithin, IsKeptSearch, IsActionSettled};
 ghost use Rattle.hv_reach.specs.Working.Waiting.{GrowsQueued};
 
 use crate::index::index;
+use crate::mask::row_has;
 use crate::passed::Passed;
 use hv_task::{AtomList, State, Task};
 use std::alloc::{AllocError, Global};
@@ -30,6 +32,9 @@ pub(crate) struct AtomSearch {
     rows: Vec<Vec<u32>>,
     // The first place for each action, but during a search.
     passed: Passed,
+    // What the last search reached, and its queue: the next one fills them anew.
+    held: State,
+    queue: Vec<u32>,
 }
 
 impl Model for AtomSearch {
@@ -51,7 +56,12 @@ impl AtomSearch {
     {
         let rows = index(alloc, task)?;
         let passed = Passed::new(alloc, task.actions())?;
-        Ok(AtomSearch { rows, passed })
+        Ok(AtomSearch {
+            rows,
+            passed,
+            held: State::empty(alloc, task.atoms())?,
+            queue: Vec::new(alloc),
+        })
     }
 
     /// The atoms that are reached from a state, as the state that holds these atoms. The work is
@@ -65,15 +75,52 @@ impl AtomSearch {
         requires search { AreSearchRowsOf task.now self.old }
         requires state { IsState task.now start.now }
         ensures size { IfOk result (λ held. length held ≡ atoms task.now) }
-        ensures reached { IfOk result (λ held. (p : ℕ) → has_atom held p ≡ true
-            → ReachedAtom task.now start.now p) }
-        ensures all { IfOk result (λ held. (p : ℕ) → ReachedAtom task.now start.now p
-            → has_atom held p ≡ true) }
+        ensures reached { IfOk result (λ held. (p : ℕ)
+            → (has_atom held p ≡ true) ↔ ReachedAtom task.now start.now p) }
         ensures kept { self.new ≡ self.old }
     {
-        let found = reached_state(alloc, task, &self.rows, &mut self.passed, start);
-        self.passed.put_back();
-        found
+        fill(
+            task,
+            &self.rows,
+            &mut self.passed,
+            &mut self.held,
+            &mut self.queue,
+            start,
+        )?;
+        let held = copy_of(alloc, &self.held)?;
+        Ok(held)
+    }
+
+    /// The same, where some goal atom isn't reached; otherwise there is none to tell.
+    pub(crate) fn reason(
+        &mut self,
+        alloc: Global,
+        task: &Task,
+        start: &State,
+    ) -> Result<Option<State>, AllocError>
+        requires search { AreSearchRowsOf task.now self.old }
+        requires state { IsState task.now start.now }
+        ensures some { IfOk result (λ found. IsTrue (is_some found)
+            ↔ RelaxedExcludesFrom task.now start.now) }
+        ensures size { IfOk result (λ found. IfSome found (λ held.
+            length held ≡ atoms task.now)) }
+        ensures reached { IfOk result (λ found. IfSome found (λ held. (p : ℕ)
+            → (has_atom held p ≡ true) ↔ ReachedAtom task.now start.now p)) }
+        ensures kept { self.new ≡ self.old }
+    {
+        fill(
+            task,
+            &self.rows,
+            &mut self.passed,
+            &mut self.held,
+            &mut self.queue,
+            start,
+        )?;
+        if row_has(&self.held, task.goal().as_slice()) {
+            return Ok(None);
+        }
+        let held = copy_of(alloc, &self.held)?;
+        Ok(Some(held))
     }
 }
 
@@ -90,34 +137,65 @@ pub fn reached_atoms(alloc: Global, task: &Task, start: &State) -> Result<AtomLi
     Ok(list)
 }
 
-// The same, as the state that holds these atoms: actions without precondition are visited first,
-// and then those that ask for an atom which is held.
-fn reached_state(
-    alloc: Global,
+// Makes this the state that holds the atoms that are reached, and puts the places back.
+fn fill(
     task: &Task,
     rows: &Vec<Vec<u32>>,
     passed: &mut Passed,
+    held: &mut State,
+    queue: &mut Vec<u32>,
     start: &State,
-) -> Result<State, AllocError>
+) -> Result<(), AllocError>
     requires index { IsTaskIndex task.now rows.now.items }
     requires actions { length passed.old ≡ length task.now.actions }
     requires zeros { AreZeros passed.old }
     requires state { IsState task.now start.now }
-    ensures size { IfOk result (λ held. length held ≡ atoms task.now) }
-    ensures reached { IfOk result (λ held. (p : ℕ) → has_atom held p ≡ true
-        → ReachedAtom task.now start.now p) }
-    ensures all { IfOk result (λ held. (p : ℕ) → ReachedAtom task.now start.now p
-        → has_atom held p ≡ true) }
+    ensures size { OnOk result (length held.new ≡ atoms task.now) }
+    ensures reached { OnOk result ((p : ℕ)
+        → (has_atom held.new p ≡ true) ↔ ReachedAtom task.now start.now p) }
+    ensures actions { length passed.new ≡ length passed.old }
+    ensures zeros { AreZeros passed.new }
+{
+    let found = reach_from(task, rows, passed, held, queue, start);
+    passed.put_back();
+    found
+}
+
+// The same, but for the places: actions without precondition are visited first, and then those that
+// ask for an atom which is held.
+fn reach_from(
+    task: &Task,
+    rows: &Vec<Vec<u32>>,
+    passed: &mut Passed,
+    held: &mut State,
+    queue: &mut Vec<u32>,
+    start: &State,
+) -> Result<(), AllocError>
+    requires index { IsTaskIndex task.now rows.now.items }
+    requires actions { length passed.old ≡ length task.now.actions }
+    requires zeros { AreZeros passed.old }
+    requires state { IsState task.now start.now }
+    ensures size { OnOk result (length held.new ≡ atoms task.now) }
+    ensures reached { OnOk result ((p : ℕ)
+        → (has_atom held.new p ≡ true) ↔ ReachedAtom task.now start.now p) }
     ensures actions { length passed.new ≡ length passed.old }
 {
-    let mut held = State::empty(alloc, task.atoms())?;
+    held.resize(task.atoms())?;
     held.copy_from(start);
-    let mut queue = Vec::new(alloc);
-    start.list_atoms(&mut queue)?;
+    start.list_atoms(queue)?;
     let free = &rows[task.atoms() as usize];
-    wake(task, &mut held, &mut queue, passed, free.as_slice())?;
-    close(task, &mut held, &mut queue, passed, rows)?;
-    Ok(held)
+    wake(task, held, queue, passed, free.as_slice())?;
+    close(task, held, queue, passed, rows)?;
+    Ok(())
+}
+
+// The same state once more.
+fn copy_of(alloc: Global, state: &State) -> Result<State, AllocError>
+    ensures { IfOk result (λ copy. copy ≡ state.now) }
+{
+    let mut copy = State::empty(alloc, state.atoms())?;
+    copy.copy_from(state);
+    Ok(copy)
 }
 
 // The atoms of a state, as a list.

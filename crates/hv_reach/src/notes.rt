@@ -20,6 +20,8 @@ use std::alloc::{AllocError, Global};
 pub(crate) struct Noted {
     pub(crate) notes: Vec<Note>,
     pub(crate) rows: NoteRows,
+    /// Space for the atoms of the state that is asked about.
+    pub(crate) held: Vec<u32>,
 }
 
 impl Noted {
@@ -31,6 +33,7 @@ impl Noted {
         Noted {
             notes: Vec::new(alloc),
             rows: NoteRows::new(alloc),
+            held: Vec::new(alloc),
         }
     }
 

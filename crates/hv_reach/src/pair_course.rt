@@ -7,19 +7,21 @@
 //! action that lacks its pair still is passed over by a look at that pair, and one that lacks none
 //! by a glance at two of its atoms, where the row of one of them hasn't the new atom: then nothing
 //! of the action itself is read. That takes 20 bytes an action, and besides the table once more.
+//!
+//! It is kept from one search to the next of the same task, and emptied before it is filled anew.
 
 ghost use Rattle.std.specs.Prelude.{◌≡◌, ◌<◌, ◌≤◌, ◌⊎◌, ℕ, true, false, length, Some, IfOk};
-ghost use Rattle.std.specs.Prelude.{MatchOption, slice_get, slice_index};
+ghost use Rattle.std.specs.Prelude.{MatchOption, OnOk, slice_get, slice_index};
 ghost use Rattle.std.specs.List.{All};
 ghost use Rattle.std.specs.List.Sorted.{IsStrictlyIncreasing};
 ghost use Rattle.hv_task.specs.State.{AreBelow, has_atom};
 ghost use Rattle.hv_reach.specs.Reached.{has_pair};
-ghost use Rattle.hv_reach.specs.Working.Course.{AreNewsBelow, ArePairedBefore, IsFirstLack, IsNews};
-ghost use Rattle.hv_reach.specs.Working.Course.{IsSized, IsTelling};
+ghost use Rattle.hv_reach.specs.Working.Course.{AreNewsBelow, ArePairedBefore, IsCourseOver};
+ghost use Rattle.hv_reach.specs.Working.Course.{IsFirstLack, IsNews, IsSized, IsTelling};
 ghost use Rattle.hv_reach.specs.Working.Table.{IsPairTable};
 ghost use Rattle.hv_reach.specs.declared.pair_course.ActionStanding.TheVariants as S;
 
-use crate::pair_table::table;
+use crate::pair_table::{clear_table, table};
 use hv_task::State;
 use std::alloc::{AllocError, Global};
 
@@ -75,14 +77,9 @@ pub(crate) struct Course {
 // For how many atoms there is space: where more are new, rows are met at once.
 const FEW: usize = 8;
 
-/// Where nothing is known, for so many atoms and actions.
-pub(crate) fn new_course(alloc: Global, atoms: u32, actions: u32) -> Result<Course, AllocError>
-    ensures told { IfOk result (λ course. IsPairTable atoms course.told.items) }
-    ensures none { IfOk result (λ course. (p q : ℕ)
-        → has_pair course.told.items p q ≡ false) }
-    ensures new { IfOk result (λ course. (k : ℕ) → k < actions
-        → slice_get course.standing.items k ≡ Some S.New) }
-    ensures sized { IfOk result (IsSized atoms actions) }
+/// Space for what is known, for so many atoms.
+pub(crate) fn new_course(alloc: Global, atoms: u32) -> Result<Course, AllocError>
+    ensures { IfOk result (IsCourseOver atoms) }
 {
     Ok(Course {
         told: table(alloc, atoms)?,
@@ -91,10 +88,29 @@ pub(crate) fn new_course(alloc: Global, atoms: u32, actions: u32) -> Result<Cour
             count: 0,
             many: false,
         },
-        standing: vec![in alloc; ActionStanding::New; actions as usize]?,
+        standing: Vec::new(alloc),
         seen: State::empty(alloc, atoms)?,
         mask: State::empty(alloc, atoms)?,
     })
+}
+
+/// Makes it a course where nothing is known, for so many actions.
+pub(crate) fn forget(atoms: u32, actions: u32, course: &mut Course) -> Result<(), AllocError>
+    requires { IsCourseOver atoms course.old }
+    ensures over { IsCourseOver atoms course.new }
+    ensures told { OnOk result (IsPairTable atoms course.new.told.items) }
+    ensures none { OnOk result ((p q : ℕ) → has_pair course.new.told.items p q ≡ false) }
+    ensures new { OnOk result ((k : ℕ) → k < actions
+        → slice_get course.new.standing.items k ≡ Some S.New) }
+    ensures sized { OnOk result (IsSized atoms actions course.new) }
+{
+    course.standing.clear();
+    course
+        .standing
+        .resize(actions as usize, ActionStanding::New)?;
+    clear_table(atoms, &mut course.told);
+    course.seen.hold(&[]);
+    Ok(())
 }
 
 /// The first missing pair of these atoms from a place on, before which none is missing.

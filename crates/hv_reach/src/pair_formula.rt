@@ -1,23 +1,21 @@
 //! The proof by the reached pairs.
 
 ghost use Rattle.std.specs.Prelude.{◌≡◌, ◌<◌, ◌≤◌, ◌↔◌, ◌++◌, ℕ, true, IsTrue, IfOk, IfErr, IfSome};
-ghost use Rattle.std.specs.Prelude.{OnOk, is_some, length};
+ghost use Rattle.std.specs.Prelude.{OnOk, is_some};
 ghost use Rattle.hv_lines.specs.Drafts.{IsGoodTable};
 ghost use Rattle.hv_lines.specs.Judged.{Concludes};
-ghost use Rattle.hv_task.specs.Strips.{IsState, atoms};
+ghost use Rattle.hv_task.specs.Strips.{atoms};
 ghost use Rattle.hv_reach.specs.declared.fault.ReachFault.TheVariants as F;
-ghost use Rattle.hv_reach.specs.Index.{IsTaskIndex};
-ghost use Rattle.hv_reach.specs.Reached.{ReachedPair, has_pair};
-ghost use Rattle.hv_reach.specs.Written.{IsPairsProof, PairsExclude, PairsExcludeFrom};
+ghost use Rattle.hv_reach.specs.Reached.{has_pair};
+ghost use Rattle.hv_reach.specs.Written.{IsPairsProof, PairsExclude};
 ghost use Rattle.hv_reach.specs.Written.{pair_clauses, pairs_formula, row_clauses};
 
 use crate::fault::ReachFault;
 use crate::horn_proof::{denied, horn_proof};
-use crate::index::index;
-use crate::pairs::{Pairs, pairs_by};
+use crate::pairs::{PairSpace, Pairs};
 use hv_lines::Draft;
 use hv_sets::Clauses;
-use hv_task::{State, Task};
+use hv_task::Task;
 use std::alloc::{AllocError, Global};
 
 /// The most atoms of a task whose pairs are looked at.
@@ -53,8 +51,10 @@ fn pairs_proof(alloc: Global, task: &Task) -> Result<Option<Draft>, AllocError>
     ensures concludes { IfOk result (λ found. IfSome found (λ draft. Concludes draft.lines)) }
 {
     let start = task.start_state(alloc)?;
-    let index = index(alloc, task)?;
-    match pairs_reason(alloc, task, &index, &start)? {
+    let mut held = Vec::new(alloc);
+    start.list_atoms(&mut held)?;
+    let mut space = PairSpace::new(alloc, task)?;
+    match space.reason(alloc, task, &start, held.as_slice())? {
         Some(pairs) => {
             let clauses = pairs_formula(alloc, task.atoms(), &pairs)?;
             let draft = horn_proof(alloc, task, clauses)?;
@@ -62,31 +62,6 @@ fn pairs_proof(alloc: Global, task: &Task) -> Result<Option<Draft>, AllocError>
         }
         None => Ok(None),
     }
-}
-
-/// The pairs that are reached from this state, where some goal pair isn't among them; otherwise
-/// there are none to tell.
-pub(crate) fn pairs_reason(
-    alloc: Global,
-    task: &Task,
-    index: &Vec<Vec<u32>>,
-    state: &State,
-) -> Result<Option<Pairs>, AllocError>
-    requires few { atoms task.now ≤ 1024 }
-    requires index { IsTaskIndex task.now index.now.items }
-    requires state { IsState task.now state.now }
-    ensures some { IfOk result (λ found. IsTrue (is_some found)
-        ↔ PairsExcludeFrom task.now state.now) }
-    ensures size { IfOk result (λ found. IfSome found (λ pairs.
-        length pairs ≡ atoms task.now)) }
-    ensures reached { IfOk result (λ found. IfSome found (λ pairs. (p q : ℕ)
-        → (has_pair pairs p q ≡ true) ↔ ReachedPair task.now state.now p q)) }
-{
-    let pairs = pairs_by(alloc, task, index, state)?;
-    if pairs.has_all(task.atoms(), task.goal().as_slice()) {
-        return Ok(None);
-    }
-    Ok(Some(pairs))
 }
 
 /// The formula of the states that hold no other pairs than these.

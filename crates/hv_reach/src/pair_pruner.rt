@@ -13,10 +13,9 @@ ghost use Rattle.hv_reach.specs.Pruners.{AreDescribed, AreHornNotes, FitPairs, H
 ghost use Rattle.hv_reach.specs.Pruners.{IsDenied, IsPairsBlock, PairsCover};
 ghost use Rattle.hv_reach.specs.Working.Pruners.{AreDiagonals};
 
-use crate::index::index;
 use crate::notes::{Noted, write_block};
-use crate::pair_formula::{MOST_ATOMS, pairs_formula, pairs_reason};
-use crate::pairs::Pairs;
+use crate::pair_formula::{MOST_ATOMS, pairs_formula};
+use crate::pairs::{PairSpace, Pairs};
 use hv_lines::{Draft, Pruner};
 use hv_task::{State, Task};
 use std::alloc::{AllocError, Global};
@@ -40,20 +39,20 @@ struct NotedPairs {
 #[derive(Drop)]
 pub struct PairPruner {
     kept: NotedPairs,
-    // Which actions ask for an atom, from the first question on.
-    index: Option<Vec<Vec<u32>>>,
+    // What the search for reached pairs goes by, from the first question on.
+    space: Option<PairSpace>,
 }
 
 impl Model for PairPruner {
     ghost use Rattle.hv_reach.specs.Pruners.{PairNotes};
-    ghost use Rattle.hv_reach.specs.Working.Pruners.{AreDiagonals, items_in};
+    ghost use Rattle.hv_reach.specs.Working.Pruners.{AreDiagonals};
 
     ghost Value = { PairNotes };
 
     ghost view = { λ p. record {
       notes = p.kept.noted.notes.items;
       reached = p.kept.reached.items;
-      index = items_in p.index;
+      index = p.space;
     } };
 
     ghost invariant = { λ p. AreDiagonals p.kept.noted.rows.rows p.kept.reached.items };
@@ -69,7 +68,7 @@ impl PairPruner {
                 noted: Noted::new(alloc),
                 reached: Vec::new(alloc),
             },
-            index: None,
+            space: None,
         }
     }
 
@@ -102,12 +101,12 @@ impl PairPruner {
         if task.atoms() > MOST_ATOMS {
             return Ok(None);
         }
-        match &self.index {
-            Some(index) => pairs_answer(alloc, task, draft, &mut self.kept, index, state),
+        match &mut self.space {
+            Some(space) => pairs_answer(alloc, task, draft, &mut self.kept, space, state),
             None => {
-                let index = index(alloc, task)?;
-                let found = pairs_answer(alloc, task, draft, &mut self.kept, &index, state)?;
-                self.index = Some(index);
+                let mut space = PairSpace::new(alloc, task)?;
+                let found = pairs_answer(alloc, task, draft, &mut self.kept, &mut space, state)?;
+                self.space = Some(space);
                 Ok(found)
             }
         }
@@ -125,7 +124,7 @@ impl Pruner for PairPruner {
     fn begin(&mut self) {
         self.kept.noted.clear();
         self.kept.reached.clear();
-        self.index = None;
+        self.space = None;
     }
 
     fn justify(
@@ -148,7 +147,7 @@ fn pairs_answer(
     task: &Task,
     draft: &mut Draft,
     kept: &mut NotedPairs,
-    index: &Vec<Vec<u32>>,
+    space: &mut PairSpace,
     state: &State,
 ) -> Result<Option<usize>, AllocError>
     requires few { atoms task.now ≤ 1024 }
@@ -158,7 +157,7 @@ fn pairs_answer(
     requires described { AreDescribed HoldsPairsOf task.now
         draft.old.lines kept.old.noted.notes.items kept.old.reached.items }
     requires diagonals { AreDiagonals kept.old.noted.rows.rows kept.old.reached.items }
-    requires index { IsTaskIndex task.now index.now.items }
+    requires index { IsTaskIndex task.now space.old }
     requires state { IsState task.now state.now }
     ensures outcome { IfOk result (λ found. IsOutcome task.now (PairsCover task.now)
         (IsDenied (atoms task.now)) (IsPairsBlock task.now state.now draft.old.lines)
@@ -171,14 +170,14 @@ fn pairs_answer(
     ensures err_notes { OnErr result
         (kept.new.noted.notes.items ≡ kept.old.noted.notes.items) }
     ensures err_reached { OnErr result (kept.new.reached.items ≡ kept.old.reached.items) }
+    ensures index { space.new ≡ space.old }
 {
-    let mut held = Vec::new(alloc);
-    state.list_atoms(&mut held)?;
-    let noted = first_noted(alloc, task, draft, kept, state, held.as_slice())?;
+    state.list_atoms(&mut kept.noted.held)?;
+    let noted = first_noted(alloc, task, draft, kept, state, kept.noted.held.as_slice())?;
     if noted.is_some() {
         return Ok(noted);
     }
-    match pairs_reason(alloc, task, index, state)? {
+    match space.reason(alloc, task, state, kept.noted.held.as_slice())? {
         Some(pairs) => {
             let clauses = pairs_formula(alloc, task.atoms(), &pairs)?;
             kept.reached.reserve(1)?;

@@ -5,20 +5,22 @@
 //! of visits is left free by the proof, and was chosen by measuring: new atoms first, then the atoms
 //! that few actions ask for; the search ends when a sweep over all atoms moved nothing.
 
-ghost use Rattle.std.specs.Prelude.{◌≡◌, ◌≤◌, ◌<◌, ◌+◌, ℕ, true, false, length, IfSome};
+ghost use Rattle.std.specs.Prelude.{◌≡◌, ◌≤◌, ◌<◌, ◌+◌, ℕ, true, false, length, IfOk, IfSome};
 ghost use Rattle.hv_task.specs.State.{AreBelow, has_atom};
 ghost use Rattle.hv_task.specs.Strips.{atoms};
 ghost use Rattle.hv_reach.specs.Reached.{has_pair};
 ghost use Rattle.hv_reach.specs.Index.{IsTaskIndex};
 ghost use Rattle.hv_reach.specs.Working.Course.{AreNewsBelow, IsAskedFor, IsNews, IsPairSearch};
-ghost use Rattle.hv_reach.specs.Working.Course.{IsRowTold, IsSized, StandAllBut};
+ghost use Rattle.hv_reach.specs.Working.Course.{IsRowTold, IsSized, IsSpaceFor, StandAllBut};
 ghost use Rattle.hv_reach.specs.Working.Table.{HaveTheirPairsBut, IsPairStep};
 ghost use Rattle.hv_reach.specs.Working.Table.{IsPairTable, IsTurn, KeepAllPairs};
 ghost use Rattle.hv_reach.specs.Working.Table.{PairsGrowWithin};
 
-use crate::pair_course::{Course, tell};
+use crate::pair_course::{Course, new_course, tell};
+use crate::pair_table::table;
 use crate::pair_visit::visit;
 use hv_task::{Atoms, Hint, State, Task};
+use std::alloc::{AllocError, Global};
 
 /// What a search for reached pairs goes by: the table, a flag for each row and one past them, and
 /// what it knows.
@@ -29,13 +31,26 @@ pub(crate) struct PairSearch {
     pub(crate) course: Course,
 }
 
+impl PairSearch {
+    /// Space for a search over the task's atoms.
+    pub(crate) fn new(alloc: Global, task: &Task) -> Result<PairSearch, AllocError>
+        ensures { IfOk result (IsSpaceFor (atoms task.now)) }
+    {
+        Ok(PairSearch {
+            rows: table(alloc, task.atoms())?,
+            flags: State::empty(alloc, task.atoms() + 1)?,
+            course: new_course(alloc, task.atoms())?,
+        })
+    }
+}
+
 /// Goes on until no flag is raised. Short rows come before long ones, which wait until the short
 /// ones are settled: where pairs come one after the other, a long row is then not gone through for
 /// each.
 pub(crate) fn close(task: &Task, index: &Vec<Vec<u32>>, search: &mut PairSearch)
     requires index { IsTaskIndex task.now index.now.items }
     requires search { IsPairSearch task.now search.old }
-    ensures table { IsPairTable (atoms task.now) search.new.rows.items }
+    ensures search { IsPairSearch task.now search.new }
     ensures grows { (p q : ℕ) → has_pair search.old.rows.items p q ≡ true
         → has_pair search.new.rows.items p q ≡ true }
     ensures keeps { KeepAllPairs task.now.actions (has_pair search.new.rows.items) }

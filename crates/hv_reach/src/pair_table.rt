@@ -2,12 +2,12 @@
 //! that of an atom with itself besides the flag past the atoms.
 
 ghost use Rattle.std.specs.Prelude.{◌≡◌, ◌<◌, ◌+◌, ◌⊎◌, ℕ, [], true, false, length, IfOk};
-ghost use Rattle.std.specs.Prelude.{slice_index_or};
+ghost use Rattle.std.specs.Prelude.{slice_index_or, slice_set};
 ghost use Rattle.std.specs.List.{All};
-ghost use Rattle.hv_task.specs.State.{AreBelow, has_atom};
+ghost use Rattle.hv_task.specs.State.{AreBelow, has_atom, state_of};
 ghost use Rattle.hv_reach.specs.Reached.{ArePaired, HasPairsOf, has_pair};
 ghost use Rattle.hv_reach.specs.Working.Table.{AreRaised, IsPairStep, IsNextNew, IsPairTable};
-ghost use Rattle.hv_reach.specs.Working.Table.{PairsGrowWithin, set_at, set_both};
+ghost use Rattle.hv_reach.specs.Working.Table.{IsSquare, PairsGrowWithin, set_at, set_both};
 
 use crate::columns::empty_states;
 use hv_task::State;
@@ -20,6 +20,26 @@ pub(crate) fn table(alloc: Global, atoms: u32) -> Result<Vec<State>, AllocError>
 {
     let rows = empty_states(alloc, atoms, atoms)?;
     Ok(rows)
+}
+
+/// Takes all pairs out of a table of so many atoms.
+pub(crate) fn clear_table(atoms: u32, rows: &mut Vec<State>)
+    requires { IsSquare atoms rows.old.items }
+    ensures table { IsPairTable atoms rows.new.items }
+    ensures none { (p q : ℕ) → has_pair rows.new.items p q ≡ false }
+{
+    for atom in 0..atoms {
+        clear_row(rows, atom);
+    }
+}
+
+// Takes all atoms out of a row.
+fn clear_row(rows: &mut Vec<State>, atom: u32)
+    requires { atom < length rows.old.items }
+    ensures { rows.new.items ≡ slice_set rows.old.items atom
+        (state_of (length (slice_index_or rows.old.items atom [])) []) }
+{
+    rows[atom as usize].hold(&[]);
 }
 
 /// Puts all pairs of these atoms in, and says whether one is new.

@@ -4,22 +4,27 @@
 //! there" then is one application, to the table itself; "all that is there is reached" is one
 //! clause.
 
-ghost use Rattle.std.specs.Prelude.{◌≡◌, ◌≤◌, ◌⊎◌, ◌↔◌, ℕ, true, false, length, IfOk};
+ghost use Rattle.std.specs.Prelude.{◌≡◌, ◌≤◌, ◌⊎◌, ◌↔◌, ℕ, true, false, length, IsTrue, IfOk};
+ghost use Rattle.std.specs.Prelude.{IfSome, OnOk, is_some};
+ghost use Rattle.hv_task.specs.AtomList.{IsListOf};
 ghost use Rattle.hv_task.specs.Strips.{IsState, atoms};
 ghost use Rattle.hv_task.specs.State.{AreBelow};
 ghost use Rattle.hv_reach.specs.Index.{IsTaskIndex};
 ghost use Rattle.hv_reach.specs.Reached.{HasPairsOf, ReachedPair, has_pair};
+ghost use Rattle.hv_reach.specs.Working.Course.{IsSpaceFor};
 ghost use Rattle.hv_reach.specs.Working.NoteRows.{IsDiagonal};
 ghost use Rattle.hv_reach.specs.Working.Table.{IsPairTable};
+ghost use Rattle.hv_reach.specs.Written.{PairsExcludeFrom};
 
 use crate::index::index;
 use crate::mask::{diagonal, has_pairs};
-use crate::pair_course::new_course;
+use crate::pair_course::forget;
 use crate::pair_search::{PairSearch, close, turn};
-use crate::pair_table::{mark_all, table};
+use crate::pair_table::{clear_table, mark_all, table};
 use hv_task::{State, Task};
 use std::alloc::{AllocError, Global};
 use std::marker::Model;
+use std::mem::replace;
 
 /// A set of pairs of atoms, the two of a pair possibly equal. The order of the two doesn't matter.
 #[derive(Drop)]
@@ -73,6 +78,87 @@ impl Pairs {
     }
 }
 
+/// What the search for reached pairs goes by, made once for a task: which actions ask for an atom,
+/// and the tables of the search. They are kept from one search to the next, which empties them
+/// first, so a state for which nothing is told costs no memory.
+#[derive(Drop)]
+pub(crate) struct PairSpace {
+    index: Vec<Vec<u32>>,
+    search: PairSearch,
+}
+
+impl Model for PairSpace {
+    ghost use Rattle.std.specs.Prelude.{◌≡◌, ◌+◌, ℕ, List, length};
+    ghost use Rattle.std.specs.Global.{Vec};
+    ghost use Rattle.hv_reach.specs.Working.Course.{IsSpaceFor};
+
+    ghost Value = { List (Vec ℕ) };
+
+    ghost view = { λ space. space.index.items };
+
+    ghost invariant = { λ space. (n : ℕ) → length space.index.items ≡ n + 1
+        → IsSpaceFor n space.search };
+}
+
+impl PairSpace {
+    /// That of the task.
+    pub(crate) fn new(alloc: Global, task: &Task) -> Result<PairSpace, AllocError>
+        ensures { IfOk result (IsTaskIndex task.now) }
+    {
+        let index = index(alloc, task)?;
+        let search = PairSearch::new(alloc, task)?;
+        Ok(PairSpace { index, search })
+    }
+
+    /// The pairs that are reached from the state of these atoms.
+    pub(crate) fn reached(
+        &mut self,
+        alloc: Global,
+        task: &Task,
+        start: &State,
+        held: &[u32],
+    ) -> Result<Pairs, AllocError>
+        requires index { IsTaskIndex task.now self.old }
+        requires state { IsState task.now start.now }
+        requires held { IsListOf start.now held.now }
+        ensures atoms { IfOk result (λ pairs. length pairs ≡ atoms task.now) }
+        ensures reached { IfOk result (λ pairs. (p q : ℕ)
+            → (has_pair pairs p q ≡ true) ↔ ReachedPair task.now start.now p q) }
+        ensures kept { self.new ≡ self.old }
+    {
+        fill(task, &self.index, &mut self.search, start, held)?;
+        let rows = take_rows(alloc, task.atoms(), &mut self.search)?;
+        Ok(Pairs { rows })
+    }
+
+    /// The same, where some goal pair isn't among them; otherwise there are none to tell.
+    pub(crate) fn reason(
+        &mut self,
+        alloc: Global,
+        task: &Task,
+        start: &State,
+        held: &[u32],
+    ) -> Result<Option<Pairs>, AllocError>
+        requires index { IsTaskIndex task.now self.old }
+        requires state { IsState task.now start.now }
+        requires held { IsListOf start.now held.now }
+        ensures some { IfOk result (λ found. IsTrue (is_some found)
+            ↔ PairsExcludeFrom task.now start.now) }
+        ensures size { IfOk result (λ found. IfSome found (λ pairs.
+            length pairs ≡ atoms task.now)) }
+        ensures reached { IfOk result (λ found. IfSome found (λ pairs. (p q : ℕ)
+            → (has_pair pairs p q ≡ true) ↔ ReachedPair task.now start.now p q)) }
+        ensures kept { self.new ≡ self.old }
+    {
+        fill(task, &self.index, &mut self.search, start, held)?;
+        if has_pairs(task.atoms(), &self.search.rows, task.goal().as_slice()) {
+            return Ok(None);
+        }
+        let rows = take_rows(alloc, task.atoms(), &mut self.search)?;
+        Ok(Some(Pairs { rows }))
+    }
+}
+
 /// The pairs that are reached from a state: those of the least set that has the pairs of the
 /// state's atoms and what actions give. An action is visited again only where the row of an atom of
 /// its precondition grew.
@@ -83,56 +169,50 @@ pub fn reached_pairs(alloc: Global, task: &Task, start: &State) -> Result<Pairs,
     ensures reached { IfOk result (λ pairs. (p q : ℕ)
         → (has_pair pairs p q ≡ true) ↔ ReachedPair task.now start.now p q) }
 {
-    let index = index(alloc, task)?;
-    pairs_by(alloc, task, &index, start)
-}
-
-/// The same by the index of the task.
-pub(crate) fn pairs_by(
-    alloc: Global,
-    task: &Task,
-    index: &Vec<Vec<u32>>,
-    start: &State,
-) -> Result<Pairs, AllocError>
-    requires index { IsTaskIndex task.now index.now.items }
-    requires state { IsState task.now start.now }
-    ensures atoms { IfOk result (λ pairs. length pairs ≡ atoms task.now) }
-    ensures reached { IfOk result (λ pairs. (p q : ℕ)
-        → (has_pair pairs p q ≡ true) ↔ ReachedPair task.now start.now p q) }
-{
-    let rows = reached_rows(alloc, task, index, start)?;
-    Ok(Pairs { rows })
-}
-
-// The table of the pairs that are reached: actions without precondition are visited first, and then
-// those that ask for an atom of the state.
-fn reached_rows(
-    alloc: Global,
-    task: &Task,
-    index: &Vec<Vec<u32>>,
-    start: &State,
-) -> Result<Vec<State>, AllocError>
-    requires index { IsTaskIndex task.now index.now.items }
-    requires state { IsState task.now start.now }
-    ensures table { IfOk result (λ rows. IsPairTable (atoms task.now) rows.items) }
-    ensures reached { IfOk result (λ rows. (p q : ℕ) → has_pair rows.items p q ≡ true
-        → ReachedPair task.now start.now p q) }
-    ensures all { IfOk result (λ rows. (p q : ℕ) → ReachedPair task.now start.now p q
-        → has_pair rows.items p q ≡ true) }
-{
-    let mut rows = table(alloc, task.atoms())?;
-    let mut flags = State::empty(alloc, task.atoms() + 1)?;
-    let course = new_course(alloc, task.atoms(), task.actions())?;
+    let mut space = PairSpace::new(alloc, task)?;
     let mut held = Vec::new(alloc);
     start.list_atoms(&mut held)?;
-    mark_all(task.atoms(), &mut rows, &mut flags, held.as_slice());
-    flags.set(task.atoms(), true);
-    let mut search = PairSearch {
-        rows,
-        flags,
-        course,
-    };
-    turn(task, index, &mut search, task.atoms());
-    close(task, index, &mut search);
-    Ok(search.rows)
+    let pairs = space.reached(alloc, task, start, held.as_slice())?;
+    Ok(pairs)
+}
+
+// Makes the table that of the pairs that are reached: actions without precondition are visited
+// first, and then those that ask for an atom of the state. At its end a search has lowered all
+// flags.
+fn fill(
+    task: &Task,
+    index: &Vec<Vec<u32>>,
+    search: &mut PairSearch,
+    start: &State,
+    held: &[u32],
+) -> Result<(), AllocError>
+    requires index { IsTaskIndex task.now index.now.items }
+    requires space { IsSpaceFor (atoms task.now) search.old }
+    requires state { IsState task.now start.now }
+    requires held { IsListOf start.now held.now }
+    ensures space { IsSpaceFor (atoms task.now) search.new }
+    ensures table { OnOk result (IsPairTable (atoms task.now) search.new.rows.items) }
+    ensures reached { OnOk result ((p q : ℕ)
+        → (has_pair search.new.rows.items p q ≡ true) ↔ ReachedPair task.now start.now p q) }
+{
+    let _ = start;
+    let atoms = task.atoms();
+    forget(atoms, task.actions(), &mut search.course)?;
+    clear_table(atoms, &mut search.rows);
+    mark_all(atoms, &mut search.rows, &mut search.flags, held);
+    search.flags.set(atoms, true);
+    turn(task, index, search, atoms);
+    close(task, index, search);
+    Ok(())
+}
+
+// Takes the table out, and leaves one without pairs.
+fn take_rows(alloc: Global, atoms: u32, search: &mut PairSearch) -> Result<Vec<State>, AllocError>
+    requires { IsSpaceFor atoms search.old }
+    ensures rows { IfOk result (λ rows. rows.items ≡ search.old.rows.items) }
+    ensures space { IsSpaceFor atoms search.new }
+{
+    let empty = table(alloc, atoms)?;
+    let rows = replace(&mut search.rows, empty);
+    Ok(rows)
 }

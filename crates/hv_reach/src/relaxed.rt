@@ -1,19 +1,15 @@
 //! The proof by the reached atoms.
 
-ghost use Rattle.std.specs.Prelude.{◌≡◌, ◌<◌, ◌↔◌, ◌++◌, ℕ, true, IsTrue, IfOk, IfSome, OnOk};
+ghost use Rattle.std.specs.Prelude.{◌≡◌, ◌<◌, ◌↔◌, ◌++◌, IsTrue, IfOk, IfSome, OnOk};
 ghost use Rattle.std.specs.Prelude.{is_some, length};
 ghost use Rattle.hv_lines.specs.Drafts.{IsGoodTable};
 ghost use Rattle.hv_lines.specs.Judged.{Concludes};
 ghost use Rattle.hv_task.specs.State.{has_atom};
-ghost use Rattle.hv_task.specs.Strips.{IsState, atoms};
-ghost use Rattle.hv_reach.specs.Index.{AreSearchRowsOf};
-ghost use Rattle.hv_reach.specs.Reached.{ReachedAtom};
-ghost use Rattle.hv_reach.specs.Written.{IsRelaxedProof, RelaxedExcludes, RelaxedExcludesFrom};
+ghost use Rattle.hv_reach.specs.Written.{IsRelaxedProof, RelaxedExcludes};
 ghost use Rattle.hv_reach.specs.Written.{atom_clauses, relaxed_formula};
 
 use crate::atom_search::AtomSearch;
 use crate::horn_proof::{denied, horn_proof};
-use crate::mask::row_has;
 use hv_lines::Draft;
 use hv_sets::Clauses;
 use hv_task::{State, Task};
@@ -32,7 +28,7 @@ pub fn prove_relaxed(alloc: Global, task: &Task) -> Result<Option<Draft>, AllocE
     let _atoms = task.atoms();
     let start = task.start_state(alloc)?;
     let mut search = AtomSearch::new(alloc, task)?;
-    match relaxed_reason(alloc, task, &mut search, &start)? {
+    match search.reason(alloc, task, &start)? {
         Some(reached) => {
             let clauses = relaxed_formula(alloc, &reached)?;
             let draft = horn_proof(alloc, task, clauses)?;
@@ -40,31 +36,6 @@ pub fn prove_relaxed(alloc: Global, task: &Task) -> Result<Option<Draft>, AllocE
         }
         None => Ok(None),
     }
-}
-
-/// The atoms that are reached from this state, where some goal atom isn't among them; otherwise
-/// there are none to tell.
-pub(crate) fn relaxed_reason(
-    alloc: Global,
-    task: &Task,
-    search: &mut AtomSearch,
-    state: &State,
-) -> Result<Option<State>, AllocError>
-    requires search { AreSearchRowsOf task.now search.old }
-    requires state { IsState task.now state.now }
-    ensures some { IfOk result (λ found. IsTrue (is_some found)
-        ↔ RelaxedExcludesFrom task.now state.now) }
-    ensures size { IfOk result (λ found. IfSome found (λ reached.
-        length reached ≡ atoms task.now)) }
-    ensures reached { IfOk result (λ found. IfSome found (λ reached. (p : ℕ)
-        → (has_atom reached p ≡ true) ↔ ReachedAtom task.now state.now p)) }
-    ensures search { search.new ≡ search.old }
-{
-    let reached = search.reached(alloc, task, state)?;
-    if row_has(&reached, task.goal().as_slice()) {
-        return Ok(None);
-    }
-    Ok(Some(reached))
 }
 
 /// The formula of the states that hold no other atoms than these.

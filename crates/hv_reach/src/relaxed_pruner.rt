@@ -15,7 +15,7 @@ ghost use Rattle.hv_reach.specs.Written.{RelaxedExcludesFrom};
 
 use crate::atom_search::AtomSearch;
 use crate::notes::{Noted, write_block};
-use crate::relaxed::{relaxed_formula, relaxed_reason};
+use crate::relaxed::relaxed_formula;
 use hv_lines::{Draft, Pruner};
 use hv_task::{State, Task};
 use std::alloc::{AllocError, Global};
@@ -158,13 +158,12 @@ fn relaxed_answer(
     ensures search { search.new ≡ search.old }
 {
     let _atoms = task.atoms();
-    let mut held = Vec::new(alloc);
-    state.list_atoms(&mut held)?;
-    let told = first_noted(alloc, task, draft, noted, state, held.as_slice())?;
+    state.list_atoms(&mut noted.held)?;
+    let told = first_noted(alloc, task, draft, noted, state, noted.held.as_slice())?;
     if told.is_some() {
         return Ok(told);
     }
-    match relaxed_reason(alloc, task, search, state)? {
+    match search.reason(alloc, task, state)? {
         Some(row) => {
             let clauses = relaxed_formula(alloc, &row)?;
             let line = write_block(alloc, task, draft, noted, clauses, row)?;

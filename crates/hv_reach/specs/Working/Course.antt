@@ -15,7 +15,7 @@ use Rattle.hv_reach.specs.declared.pair_course.ActionStanding.TheVariants as S
 use Rattle.hv_reach.specs.declared.pair_search.PairSearch.{PairSearch}
 use Rattle.hv_reach.specs.Reached.{HasPairsOf, LeavesAlone, has_pair}
 use Rattle.hv_reach.specs.Working.Index.{IsInRest}
-use Rattle.hv_reach.specs.Working.Table.{HaveTheirPairs, IsPairTable}
+use Rattle.hv_reach.specs.Working.Table.{HaveTheirPairs, IsPairTable, IsSquare}
 
 -- the pairs of a list before a place are in the set: those of the rows before it, and in its row
 -- those of the columns before it
@@ -116,6 +116,18 @@ pub record IsSized (n m : ℕ) (course : Course) : Type 0 where
   pub standing : length course.standing.items ≡ m
   pub mask : length course.mask ≡ n
   pub seen : length course.seen ≡ n
+
+-- what is kept of each atom is over so many atoms
+pub record IsCourseOver (n : ℕ) (course : Course) : Type 0 where
+  pub told : IsSquare n course.told.items
+  pub mask : length course.mask ≡ n
+  pub seen : length course.seen ≡ n
+
+-- there is space for a search over so many atoms
+pub record IsSpaceFor (n : ℕ) (search : PairSearch) : Type 0 where
+  pub rows : IsSquare n search.rows.items
+  pub flags : length search.flags ≡ n + 1
+  pub course : IsCourseOver n search.course
 
 -- what a search for reached pairs keeps
 pub record IsPairSearch (task : Strips) (search : PairSearch) : Type 0 where

@@ -1,18 +1,11 @@
 -- Working definitions beside those of `Pruners`: for private contracts and proofs.
-use Rattle.std.specs.Prelude.{◌≡◌, ◌<◌, [], ℕ, Bool, true, List, Option, Some, None, length}
-use Rattle.std.specs.Prelude.{slice_index_or}
-use Rattle.std.specs.Global.{Vec}
+use Rattle.std.specs.Prelude.{◌≡◌, ◌<◌, [], ℕ, Bool, true, List, length, slice_index_or}
 use Rattle.hv_task.specs.Strips.{Strips, IsState}
 use Rattle.hv_sets.specs.Truth.{in_clauses}
 use Rattle.hv_sets.specs.declared.literal.Literal.{Literal}
 use Rattle.hv_lines.specs.Meaning.{SetOfStates}
 use Rattle.hv_reach.specs.Working.NoteRows.{IsDiagonal}
 use Rattle.hv_reach.specs.Working.Written.{IsDeadEnd}
-
--- the rows of an index, if there is one
-abbrev pub items_in : Option (Vec (Vec ℕ)) → Option (List (Vec ℕ))
-items_in (Some rows) = Some rows.items
-items_in None = None
 
 -- there is one row for each table, with the atoms that are in a pair with themselves
 pub record AreDiagonals (rows : List (List Bool)) (tables : List (List (List Bool))) : Type 0 where

@@ -52,6 +52,11 @@ set_at rows p q = slice_set rows p (slice_set (slice_index_or rows p []) q true)
 abbrev pub set_both : List (List Bool) → ℕ → ℕ → List (List Bool)
 set_both rows p q = set_at (set_at rows p q) q p
 
+-- so many rows, each over so many atoms
+pub record IsSquare (n : ℕ) (rows : List (List Bool)) : Type 0 where
+  pub size : length rows ≡ n
+  pub each : All (λ row. length row ≡ n) rows
+
 -- a table over so many atoms: it is even, and what is paired is paired with itself
 pub record IsPairTable (n : ℕ) (rows : List (List Bool)) : Type 0 where
   pub size : length rows ≡ n

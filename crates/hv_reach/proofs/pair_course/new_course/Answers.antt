@@ -1,14 +1,13 @@
-use Rattle.std.proofs.Common.{◌≡◌, ◌<◌, Some, arith, length, replicate, slice_get, subst, sym}
-use Rattle.std.proofs.lemmas.List.{get_or-replicate, length-replicate}
-use Rattle.hv_reach.proofs.Sets.{slice_get_at}
-use Rattle.hv_reach.specs.declared.pair_course.ActionStanding.TheVariants as S
+use Rattle.std.proofs.Common.{◌∙◌, [], ap, length}
+use Rattle.hv_task.proofs.Places.{length-state_of}
+use Rattle.hv_reach.proofs.Served.{square}
 use Rattle.hv_reach.proofs.pair_course.new_course.Goals as goal
 
-pub returns-clause-new : goal.returns-clause-new
-returns-clause-new c = λ k less.
-    let size = length-replicate c.args.actions S.New in
-    let inside : k < length (replicate c.args.actions S.New) = omega arith in
-    subst (λ xs. slice_get xs k ≡ Some S.New)
-    (sym (c.in_ok-vec-2.ensures.items_if_clones_equal (λ y same. same)))
-    (slice_get_at (replicate c.args.actions S.New) k S.New inside
-    (sym (get_or-replicate c.args.actions k S.New S.New less)))
+pub returns : goal.returns
+returns c =
+    let size = length-state_of c.args.atoms [] in
+    record {
+      told = square c.args.atoms c.in_ok-table.field-0.items c.in_ok-table.ensures.table;
+      mask = ap length c.in_ok-empty-2.ensures ∙ size;
+      seen = ap length c.in_ok-empty.ensures ∙ size;
+    }

@@ -1,6 +1,5 @@
-use Rattle.std.proofs.Common.{◌≡◌, ◌∙◌, ◌↔◌, ◌++◌, ◌∷◌, [], true, ℕ, Bool, List, Option, Some}
-use Rattle.std.proofs.Common.{ap, is_some, length, refl, sym, subst}
-use Rattle.std.specs.Option.{IfSome}
+use Rattle.std.proofs.Common.{◌∙◌, ◌++◌, ◌∷◌, [], Bool, List, Some}
+use Rattle.std.proofs.Common.{ap, refl, sym, subst}
 use Rattle.hv_task.specs.Strips.{atoms}
 use Rattle.hv_lines.specs.Drafts.{IsGoodTable}
 use Rattle.hv_lines.specs.Numbering.{expr_count, known_count}
@@ -8,7 +7,6 @@ use Rattle.hv_lines.specs.Working.Pruning.{IsOutcome}
 use Rattle.hv_lines.proofs.Outcomes.{none_told, outcome_told}
 use Rattle.hv_reach.specs.Pruners.{HoldsPairsOf, IsDenied, IsPairsBlock, PairsCover}
 use Rattle.hv_reach.specs.Working.Pruners.{AreDiagonals}
-use Rattle.hv_reach.specs.Reached.{ReachedPair, has_pair}
 use Rattle.hv_reach.proofs.Described.{diagonals_over, diagonals_pushed}
 use Rattle.hv_reach.proofs.Found.{pairs_found_formula, pairs_found_holds, pairs_found_reason}
 use Rattle.hv_reach.proofs.Writing.{outcome_written, written_described}
@@ -26,28 +24,20 @@ pub write_block-requires-clause-dead : goal.write_block-requires-clause-dead
 write_block-requires-clause-dead c =
     let task = c.args.task.now in
     let state = c.args.state.now in
-    let size = subst (λ (f : Option (List (List Bool))). IfSome f (λ r. length r ≡ atoms task))
-    c.in-Some.is c.in_ok-pairs.ensures.size in
-    let each = subst (λ (f : Option (List (List Bool))). IfSome f
-    (λ r. (p q : ℕ) → (has_pair r p q ≡ true) ↔ ReachedPair task state p q)) c.in-Some.is
-    c.in_ok-pairs.ensures.reached in
-    let out = c.in_ok-pairs.ensures.some.0
-    (ap (λ (f : Option (List (List Bool))). is_some f) c.in-Some.is) in
+    let size = rw c.in-Some.is at c.in_ok-pairs.ensures.size in
+    let each = rw c.in-Some.is at c.in_ok-pairs.ensures.reached in
+    let out = (rw c.in-Some.is at c.in_ok-pairs.ensures.some).0 refl in
     (pairs_found_reason task c.in-Some.pairs state each c.in_ok-clauses-in-Some.clauses
     c.atoms.result c.atoms.ensures.atoms c.in_ok-clauses-in-Some.ensures
     c.requires.few c.requires.state out).dead
 
-pub returns-in-Some-clause-outcome : goal.returns-in-Some-clause-outcome
-returns-in-Some-clause-outcome c =
+pub returns-in_ok-line-in-Some-clause-outcome : goal.returns-in_ok-line-in-Some-clause-outcome
+returns-in_ok-line-in-Some-clause-outcome c =
     let task = c.args.task.now in
     let state = c.args.state.now in
-    let size = subst (λ (f : Option (List (List Bool))). IfSome f (λ r. length r ≡ atoms task))
-    c.in-Some.is c.in_ok-pairs.ensures.size in
-    let each = subst (λ (f : Option (List (List Bool))). IfSome f
-    (λ r. (p q : ℕ) → (has_pair r p q ≡ true) ↔ ReachedPair task state p q)) c.in-Some.is
-    c.in_ok-pairs.ensures.reached in
-    let out = c.in_ok-pairs.ensures.some.0
-    (ap (λ (f : Option (List (List Bool))). is_some f) c.in-Some.is) in
+    let size = rw c.in-Some.is at c.in_ok-pairs.ensures.size in
+    let each = rw c.in-Some.is at c.in_ok-pairs.ensures.reached in
+    let out = (rw c.in-Some.is at c.in_ok-pairs.ensures.some).0 refl in
     let lines = c.args.draft.now.lines in
     let notes = c.args.kept.now.noted.notes.items in
     let clauses = c.in_ok-clauses-in-Some.clauses in
@@ -73,17 +63,13 @@ returns-in-Some-clause-outcome c =
     none c.args.draft.now c.write_block.new.draft c.write_block.new.noted.notes.items refl
     wrote.lines wrote.notes)
 
-pub returns-in-Some-clause-described : goal.returns-in-Some-clause-described
-returns-in-Some-clause-described c =
+pub returns-in_ok-line-in-Some-clause-described : goal.returns-in_ok-line-in-Some-clause-described
+returns-in_ok-line-in-Some-clause-described c =
     let task = c.args.task.now in
     let state = c.args.state.now in
-    let size = subst (λ (f : Option (List (List Bool))). IfSome f (λ r. length r ≡ atoms task))
-    c.in-Some.is c.in_ok-pairs.ensures.size in
-    let each = subst (λ (f : Option (List (List Bool))). IfSome f
-    (λ r. (p q : ℕ) → (has_pair r p q ≡ true) ↔ ReachedPair task state p q)) c.in-Some.is
-    c.in_ok-pairs.ensures.reached in
-    let out = c.in_ok-pairs.ensures.some.0
-    (ap (λ (f : Option (List (List Bool))). is_some f) c.in-Some.is) in
+    let size = rw c.in-Some.is at c.in_ok-pairs.ensures.size in
+    let each = rw c.in-Some.is at c.in_ok-pairs.ensures.reached in
+    let out = (rw c.in-Some.is at c.in_ok-pairs.ensures.some).0 refl in
     let lines = c.args.draft.now.lines in
     let clauses = c.in_ok-clauses-in-Some.clauses in
     let wrote = c.in_ok-line-in-Some.ensures in
@@ -101,15 +87,14 @@ returns-in-Some-clause-described c =
 pub write_block-requires-clause-over : goal.write_block-requires-clause-over
 write_block-requires-clause-over c = λ k less.
     let task = c.args.task.now in
-    let size = subst (λ (f : Option (List (List Bool))). IfSome f (λ r. length r ≡ atoms task))
-    c.in-Some.is c.in_ok-pairs.ensures.size in
+    let size = rw c.in-Some.is at c.in_ok-pairs.ensures.size in
     diagonals_over task c.args.draft.now.lines c.args.kept.now.noted.notes.items
     c.args.kept.now.reached.items
     c.requires.described c.args.kept.now.noted.rows.rows c.requires.diagonals k less
     ∙ sym (c.in_ok-row-in-Some.ensures.0 ∙ size)
 
-pub returns-in-Some-clause-diagonals : goal.returns-in-Some-clause-diagonals
-returns-in-Some-clause-diagonals c =
+pub returns-in_ok-line-in-Some-clause-diagonals : goal.returns-in_ok-line-in-Some-clause-diagonals
+returns-in_ok-line-in-Some-clause-diagonals c =
     let wrote = c.in_ok-line-in-Some.ensures in
     subst (λ rs. AreDiagonals rs c.push_reserved.new.self.items) (sym wrote.rows)
     (subst (AreDiagonals (c.args.kept.now.noted.rows.rows ++ c.in_ok-row-in-Some.row ∷ []))

@@ -1,14 +1,11 @@
-use Rattle.std.proofs.Common.{◌≡◌, ◌∙◌, ◌↔◌, true, ℕ, Bool, List, Option, Some, ap, is_some, length}
+use Rattle.std.proofs.Common.{◌∙◌, Some}
 use Rattle.std.proofs.Common.{refl, sym, subst}
-use Rattle.std.specs.Option.{IfSome}
-use Rattle.hv_task.specs.State.{has_atom}
 use Rattle.hv_task.specs.Strips.{atoms}
 use Rattle.hv_lines.specs.Drafts.{IsGoodTable}
 use Rattle.hv_lines.specs.Numbering.{expr_count, known_count}
 use Rattle.hv_lines.specs.Working.Pruning.{IsOutcome}
 use Rattle.hv_lines.proofs.Outcomes.{none_told, outcome_told}
 use Rattle.hv_reach.specs.Pruners.{HoldsAtomsOf, IsDenied, IsRelaxedBlock}
-use Rattle.hv_reach.specs.Reached.{ReachedAtom}
 use Rattle.hv_reach.specs.Written.{RelaxedExcludesFrom}
 use Rattle.hv_reach.proofs.Described.{described_over}
 use Rattle.hv_reach.proofs.Found.{relaxed_found_formula, relaxed_found_holds, relaxed_found_reason}
@@ -28,28 +25,20 @@ pub write_block-requires-clause-dead : goal.write_block-requires-clause-dead
 write_block-requires-clause-dead c =
     let task = c.args.task.now in
     let state = c.args.state.now in
-    let size = subst (λ (f : Option (List Bool)). IfSome f (λ r. length r ≡ atoms task))
-    c.in-Some.is c.in_ok-row.ensures.size in
-    let each = subst (λ (f : Option (List Bool)). IfSome f
-    (λ r. (p : ℕ) → (has_atom r p ≡ true) ↔ ReachedAtom task state p)) c.in-Some.is
-    c.in_ok-row.ensures.reached in
-    let out = c.in_ok-row.ensures.some.0 (ap (λ (f : Option (List Bool)). is_some f) c.in-Some.is)
-    in
+    let size = rw c.in-Some.is at c.in_ok-row.ensures.size in
+    let each = rw c.in-Some.is at c.in_ok-row.ensures.reached in
+    let out = (rw c.in-Some.is at c.in_ok-row.ensures.some).0 refl in
     (relaxed_found_reason task c.in-Some.row size state each c.in_ok-clauses-in-Some.clauses
     c.in_ok-clauses-in-Some.ensures
     c.atoms-atoms.ensures.task.few_atoms c.requires.state out).dead
 
-pub returns-in-Some-clause-outcome : goal.returns-in-Some-clause-outcome
-returns-in-Some-clause-outcome c =
+pub returns-in_ok-line-in-Some-clause-outcome : goal.returns-in_ok-line-in-Some-clause-outcome
+returns-in_ok-line-in-Some-clause-outcome c =
     let task = c.args.task.now in
     let state = c.args.state.now in
-    let size = subst (λ (f : Option (List Bool)). IfSome f (λ r. length r ≡ atoms task))
-    c.in-Some.is c.in_ok-row.ensures.size in
-    let each = subst (λ (f : Option (List Bool)). IfSome f
-    (λ r. (p : ℕ) → (has_atom r p ≡ true) ↔ ReachedAtom task state p)) c.in-Some.is
-    c.in_ok-row.ensures.reached in
-    let out = c.in_ok-row.ensures.some.0 (ap (λ (f : Option (List Bool)). is_some f) c.in-Some.is)
-    in
+    let size = rw c.in-Some.is at c.in_ok-row.ensures.size in
+    let each = rw c.in-Some.is at c.in_ok-row.ensures.reached in
+    let out = (rw c.in-Some.is at c.in_ok-row.ensures.some).0 refl in
     let lines = c.args.draft.now.lines in
     let notes = c.args.noted.now.notes.items in
     let clauses = c.in_ok-clauses-in-Some.clauses in
@@ -75,17 +64,13 @@ returns-in-Some-clause-outcome c =
     c.args.draft.now c.write_block.new.draft c.write_block.new.noted.notes.items refl
     wrote.lines wrote.notes)
 
-pub returns-in-Some-clause-described : goal.returns-in-Some-clause-described
-returns-in-Some-clause-described c =
+pub returns-in_ok-line-in-Some-clause-described : goal.returns-in_ok-line-in-Some-clause-described
+returns-in_ok-line-in-Some-clause-described c =
     let task = c.args.task.now in
     let state = c.args.state.now in
-    let size = subst (λ (f : Option (List Bool)). IfSome f (λ r. length r ≡ atoms task))
-    c.in-Some.is c.in_ok-row.ensures.size in
-    let each = subst (λ (f : Option (List Bool)). IfSome f
-    (λ r. (p : ℕ) → (has_atom r p ≡ true) ↔ ReachedAtom task state p)) c.in-Some.is
-    c.in_ok-row.ensures.reached in
-    let out = c.in_ok-row.ensures.some.0 (ap (λ (f : Option (List Bool)). is_some f) c.in-Some.is)
-    in
+    let size = rw c.in-Some.is at c.in_ok-row.ensures.size in
+    let each = rw c.in-Some.is at c.in_ok-row.ensures.reached in
+    let out = (rw c.in-Some.is at c.in_ok-row.ensures.some).0 refl in
     let lines = c.args.draft.now.lines in
     let clauses = c.in_ok-clauses-in-Some.clauses in
     let wrote = c.in_ok-line-in-Some.ensures in
@@ -101,7 +86,6 @@ returns-in-Some-clause-described c =
 pub write_block-requires-clause-over : goal.write_block-requires-clause-over
 write_block-requires-clause-over c = λ k less.
     let task = c.args.task.now in
-    let size = subst (λ (f : Option (List Bool)). IfSome f (λ r. length r ≡ atoms task))
-    c.in-Some.is c.in_ok-row.ensures.size in
+    let size = rw c.in-Some.is at c.in_ok-row.ensures.size in
     described_over HoldsAtomsOf task c.args.draft.now.lines c.args.noted.now.notes.items
     c.args.noted.now.rows.rows c.requires.described k less ∙ sym size

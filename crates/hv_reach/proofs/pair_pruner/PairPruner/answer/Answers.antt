@@ -3,7 +3,6 @@ use Rattle.std.specs.Option.{IfSome}
 use Rattle.hv_task.specs.Strips.{atoms}
 use Rattle.hv_lines.proofs.Outcomes.{fits_after, outcome_beyond}
 use Rattle.hv_reach.specs.Index.{IsTaskIndex}
-use Rattle.hv_reach.specs.Working.Pruners.{items_in}
 use Rattle.hv_reach.specs.Pruners.{FitPairs, HoldsPairsOf, IsDenied, IsPairsBlock}
 use Rattle.hv_reach.specs.Pruners.{PairsCover}
 use Rattle.hv_reach.proofs.Writing.{described_after}
@@ -21,9 +20,14 @@ pairs_answer-requires-clause-described c =
 
 pub pairs_answer-requires-clause-index : goal.pairs_answer-requires-clause-index
 pairs_answer-requires-clause-index c =
-    subst (λ x. IfSome (items_in x) (IsTaskIndex c.args.task.now)) c.in-Some.is
+    subst (λ x. IfSome x (IsTaskIndex c.args.task.now)) c.in-Some.is
     (subst (FitPairs c.args.task.now c.args.draft.now.lines) (sym c.self.view_is)
     c.requires.fits).2
+
+pub returns-in_err-space-in-None-clause-fits : goal.returns-in_err-space-in-None-clause-fits
+returns-in_err-space-in-None-clause-fits c =
+    subst (FitPairs c.args.task.now c.args.draft.now.lines) (sym c.self.view_is)
+    c.requires.fits
 
 pub pairs_answer-requires-in-None-clause-fits : goal.pairs_answer-requires-in-None-clause-fits
 pairs_answer-requires-in-None-clause-fits c =
@@ -70,7 +74,8 @@ returns-in-Some-clause-fits c =
           c.self.inside.kept.reached.items
           n.kept.reached.items c.pairs_answer.result e.described e.err_draft e.err_notes
           e.err_reached fits.1,
-      fits.2,
+      subst (IsTaskIndex c.args.task.now) (sym e.index)
+          (subst (λ x. IfSome x (IsTaskIndex c.args.task.now)) c.in-Some.is fits.2),
     )
 
 -- in so great a task no state is covered

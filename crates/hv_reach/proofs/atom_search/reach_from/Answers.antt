@@ -5,7 +5,7 @@ use Rattle.hv_reach.proofs.Sets.{slice_get_at}
 use Rattle.hv_reach.proofs.Waiting.{all_queued, kept_start, queue_below, settled_start}
 use Rattle.hv_reach.specs.Reached.{IsWithin}
 use Rattle.hv_reach.specs.Working.Waiting.{AreActionsSettledBut}
-use Rattle.hv_reach.proofs.atom_search.reached_state.Goals as goal
+use Rattle.hv_reach.proofs.atom_search.reach_from.Goals as goal
 
 pub wake-requires-clause-kept : goal.wake-requires-clause-kept
 wake-requires-clause-kept c =
@@ -31,14 +31,14 @@ wake-requires-clause-settled c =
     c.copy_from.ensures c.in_ok-list_atoms.ensures.listed))
 
 pub returns-clause-reached : goal.returns-clause-reached
-returns-clause-reached c = λ p h r closed.
-    c.in_ok-close.ensures.least r closed.keeps (c.in_ok-wake.ensures.least r closed.keeps
-    (subst (λ s. IsWithin s r) (sym c.copy_from.ensures) closed.begins)) p h
-
-pub returns-clause-all : goal.returns-clause-all
-returns-clause-all c = λ p h. h (has_atom c.close.new.held) record {
-  begins = λ q e. c.in_ok-close.ensures.grows q
-      (c.in_ok-wake.ensures.step.grows q (subst
-      (λ s. has_atom s q ≡ true) (sym c.copy_from.ensures) e));
-  keeps = c.in_ok-close.ensures.keeps;
-}
+returns-clause-reached c = λ p. (
+  λ h r closed.
+      c.in_ok-close.ensures.least r closed.keeps (c.in_ok-wake.ensures.least r closed.keeps
+      (subst (λ s. IsWithin s r) (sym c.copy_from.ensures) closed.begins)) p h,
+  λ h. h (has_atom c.close.new.held) record {
+    begins = λ q e. c.in_ok-close.ensures.grows q
+        (c.in_ok-wake.ensures.step.grows q (subst
+        (λ s. has_atom s q ≡ true) (sym c.copy_from.ensures) e));
+    keeps = c.in_ok-close.ensures.keeps;
+  },
+)
