@@ -152,6 +152,17 @@ quiet_more actions old new x m k turn before here e y less =
           subst (λ z. has_atom new.flags z ≡ false) same (here w.1)
     ]
 
+-- where no flag is raised before one, and from it on none that is at hand, none is
+pub quiet_before : (flags : List Bool) (from : ℕ) (m : Bool) (Here : ℕ → Type 0)
+    → (m ≡ false → (y : ℕ) → y < from → has_atom flags y ≡ false)
+    → ((y : ℕ) → from ≤ y → Here y → has_atom flags y ≡ false)
+    → m ≡ false → (y : ℕ) → Here y → has_atom flags y ≡ false
+quiet_before flags from m Here before after still y here =
+    elim (cases_lt y from) [
+      | inl lt ↦ before still y lt
+      | inr ge ↦ after y ge here
+    ]
+
 -- where no flag is raised, the table keeps all pairs
 pub keeps_quiet : (n : ℕ) (actions : List Action) (rows : List (List Bool)) (flags : List Bool)
     → length flags ≡ n + 1 → HaveTheirPairs n actions rows flags

@@ -2,10 +2,11 @@
 //!
 //! There is one flag per atom and no queue of pairs: an action is visited again only where a row of
 //! an atom of its precondition grew, and is then told what is new in it (`pair_course`). The order
-//! of visits is left free by the proof, and was chosen by measuring: new atoms first, then the atoms
-//! that few actions ask for; the search ends when a sweep over all atoms moved nothing.
+//! of visits is left free by the proof, and was chosen by measuring: new atoms first, then the
+//! atoms that few actions ask for; the search ends when a sweep over all atoms moved nothing.
 
 ghost use Rattle.std.specs.Prelude.{◌≡◌, ◌≤◌, ◌<◌, ◌+◌, ℕ, true, false, length, IfOk, IfSome};
+ghost use Rattle.hv_task.specs.Atoms.{IsNext};
 ghost use Rattle.hv_task.specs.State.{AreBelow, has_atom};
 ghost use Rattle.hv_task.specs.Strips.{atoms};
 ghost use Rattle.hv_reach.specs.Reached.{has_pair};
@@ -163,13 +164,14 @@ fn next_unseen(atoms: u32, search: &PairSearch) -> Option<u32>
 
 // The next flag from this one on that is raised.
 fn next_raised(flags: &State, from: u32) -> Option<u32>
-    ensures { IfSome result (λ x. (from ≤ x) × (x < length flags.now)) }
+    ensures next { IsNext (has_atom flags.now) from result }
+    ensures within { IfSome result (λ x. (from ≤ x) × (x < length flags.now)) }
 {
     let mut hint = Hint::default();
     flags.next(from, &mut hint)
 }
 
-// One turn for each flag.
+// One turn for each flag that is raised, or comes to be before it is passed.
 fn sweep(task: &Task, index: &Vec<Vec<u32>>, search: &mut PairSearch) -> bool
     requires index { IsTaskIndex task.now index.now.items }
     requires search { IsPairSearch task.now search.old }
@@ -178,9 +180,12 @@ fn sweep(task: &Task, index: &Vec<Vec<u32>>, search: &mut PairSearch) -> bool
         → has_atom search.new.flags x ≡ false }
     ensures search { IsPairSearch task.now search.new }
 {
+    let _atoms = task.atoms();
     let mut moved = false;
-    for flag in 0..task.atoms() + 1 {
+    let mut from = 0;
+    while let Some(flag) = next_raised(&search.flags, from) {
         moved |= turn(task, index, search, flag);
+        from = flag + 1;
     }
     moved
 }
