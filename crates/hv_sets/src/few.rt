@@ -1,10 +1,10 @@
 //! Few pieces of few items, which lie in the value itself and in no block of memory: a proof can have
 //! hundreds of thousands of lists of one short piece.
 
-ghost use Rattle.std.specs.Prelude.{◌≡◌, IfSome};
+ghost use Rattle.std.specs.Prelude.{◌≡◌, ◌<◌, IfSome, Some, length, slice_get};
 ghost use Rattle.hv_sets.specs.Working.Pieces.{EndWithin, gathered};
 
-use crate::flat::Parts;
+use crate::flat::{Parts, piece_at};
 use std::marker::Model;
 
 /// So many pieces are few.
@@ -86,5 +86,21 @@ impl<T: Copy, const N: usize> Few<T, N> {
             items: &self.items[..self.len as usize],
             ends: &self.ends[..self.count as usize],
         }
+    }
+
+    /// How many pieces there are.
+    pub(crate) fn len(&self) -> usize
+        ensures { result ≡ length self.now.whole }
+    {
+        self.parts().ends.len()
+    }
+
+    /// The items of the piece at a place from 0.
+    pub(crate) fn get(&self, place: usize) -> &[T]
+        requires { place < length self.now.whole }
+        ensures { slice_get self.now.whole place ≡ Some result.now }
+    {
+        let parts = self.parts();
+        piece_at(parts.items, parts.ends, place)
     }
 }

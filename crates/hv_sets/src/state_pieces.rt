@@ -1,4 +1,7 @@
 //! Lists of states that have one owner or several, in four bytes an atom or in one.
+//!
+//! The forms are those of `SharedPieces`, where what is held together has two forms itself: so a
+//! list is no larger than one of clauses.
 
 ghost use Rattle.std.specs.Prelude.{◌≡◌, ◌<◌, ◌++◌, ◌∷◌, [], length, slice_get, IfOk, OnErr, OnOk};
 ghost use Rattle.std.specs.Prelude.{Some};
@@ -6,10 +9,10 @@ ghost use Rattle.std.specs.List.{All};
 ghost use Rattle.std.specs.List.Sorted.{IsStrictlyIncreasing};
 ghost use Rattle.hv_sets.specs.Working.KeptStates.{AreFit, held_states};
 
+use crate::few::Few;
 use crate::flat::Flat;
 use crate::listed_state::KeptState;
 use crate::narrow::{narrowed, widened};
-use crate::shared_pieces::SharedPieces;
 use std::alloc::{AllocError, Global};
 use std::rc::Rc;
 
@@ -19,8 +22,16 @@ const FEW_ATOMS: usize = 8;
 /// States that are held alone, or together with others who only read them.
 #[derive(Drop)]
 pub(crate) enum StatePieces {
+    Together(SharedStates),
+    Alone(Flat<u32>),
+    Few(Few<u32, FEW_ATOMS>),
+}
+
+/// States that are held together.
+#[derive(Drop)]
+pub(crate) enum SharedStates {
     /// In four bytes an atom.
-    Wide(SharedPieces<u32, FEW_ATOMS>),
+    Wide(Rc<Flat<u32>, Global>),
     /// In one byte an atom, of states of at most 64.
     Narrow(Rc<Flat<u8>, Global>),
 }
@@ -31,7 +42,7 @@ impl StatePieces {
         ensures held { held_states result ≡ flat }
         ensures fit { AreFit result }
     {
-        StatePieces::Wide(SharedPieces::Alone(flat))
+        StatePieces::Alone(flat)
     }
 
     /// The same states, of which each further copy takes no memory of its own; in one byte an atom
@@ -42,9 +53,8 @@ impl StatePieces {
         ensures fit { IfOk result AreFit }
     {
         match self {
-            StatePieces::Wide(SharedPieces::Alone(flat)) => shared_flat(alloc, flat),
-            StatePieces::Wide(pieces) => Ok(StatePieces::Wide(pieces.share(alloc)?)),
-            StatePieces::Narrow(shared) => Ok(StatePieces::Narrow(shared)),
+            StatePieces::Alone(flat) => shared_flat(alloc, flat),
+            shared => Ok(shared),
         }
     }
 
@@ -56,8 +66,14 @@ impl StatePieces {
         ensures fit { IfOk result AreFit }
     {
         match self {
-            StatePieces::Wide(pieces) => Ok(StatePieces::Wide(pieces.copy(alloc)?)),
-            StatePieces::Narrow(shared) => Ok(StatePieces::Narrow(shared.clone()?)),
+            StatePieces::Together(SharedStates::Wide(shared)) => {
+                Ok(StatePieces::Together(SharedStates::Wide(shared.clone()?)))
+            }
+            StatePieces::Together(SharedStates::Narrow(shared)) => {
+                Ok(StatePieces::Together(SharedStates::Narrow(shared.clone()?)))
+            }
+            StatePieces::Alone(flat) => Ok(StatePieces::Alone(Flat::of(alloc, flat.parts())?)),
+            StatePieces::Few(few) => Ok(StatePieces::Few(few.copy())),
         }
     }
 
@@ -72,14 +88,30 @@ impl StatePieces {
         ensures err { OnErr result (held_states self.new ≡ held_states self.old) }
         ensures fit { AreFit self.new }
     {
+        if let StatePieces::Alone(flat) = self {
+            return flat.push(atoms);
+        }
+        let mut own = self.own(alloc)?;
+        own.push(atoms)?;
+        *self = StatePieces::Alone(own);
+        Ok(())
+    }
+
+    // The same states, held alone.
+    fn own(&self, alloc: Global) -> Result<Flat<u32>, AllocError>
+        ensures { IfOk result (λ own. own ≡ held_states self.now) }
+    {
         match self {
-            StatePieces::Wide(pieces) => pieces.push(alloc, atoms),
-            StatePieces::Narrow(shared) => {
-                let mut own = widened(alloc, Rc::as_ref(shared).parts())?;
-                own.push(atoms)?;
-                *self = StatePieces::of(own);
-                Ok(())
-            }
+            StatePieces::Together(SharedStates::Wide(shared)) => Flat::of(
+                alloc,
+                Rc::as_ref(shared).parts(),
+            ),
+            StatePieces::Together(SharedStates::Narrow(shared)) => widened(
+                alloc,
+                Rc::as_ref(shared).parts(),
+            ),
+            StatePieces::Alone(flat) => Flat::of(alloc, flat.parts()),
+            StatePieces::Few(few) => Flat::of(alloc, few.parts()),
         }
     }
 
@@ -88,8 +120,10 @@ impl StatePieces {
         ensures { result ≡ length (held_states self.now).whole }
     {
         match self {
-            StatePieces::Wide(pieces) => pieces.len(),
-            StatePieces::Narrow(shared) => Rc::as_ref(shared).len(),
+            StatePieces::Together(SharedStates::Wide(shared)) => Rc::as_ref(shared).len(),
+            StatePieces::Together(SharedStates::Narrow(shared)) => Rc::as_ref(shared).len(),
+            StatePieces::Alone(flat) => flat.len(),
+            StatePieces::Few(few) => few.len(),
         }
     }
 
@@ -101,8 +135,14 @@ impl StatePieces {
         ensures { slice_get (held_states self.now).whole place ≡ Some result }
     {
         match self {
-            StatePieces::Wide(pieces) => KeptState::wide(pieces.get(place)),
-            StatePieces::Narrow(shared) => KeptState::narrow(Rc::as_ref(shared).get(place)),
+            StatePieces::Together(SharedStates::Wide(shared)) => {
+                KeptState::wide(Rc::as_ref(shared).get(place))
+            }
+            StatePieces::Together(SharedStates::Narrow(shared)) => {
+                KeptState::narrow(Rc::as_ref(shared).get(place))
+            }
+            StatePieces::Alone(flat) => KeptState::wide(flat.get(place)),
+            StatePieces::Few(few) => KeptState::wide(few.get(place)),
         }
     }
 }
@@ -112,8 +152,11 @@ fn shared_flat(alloc: Global, flat: Flat<u32>) -> Result<StatePieces, AllocError
     ensures held { IfOk result (λ shared. held_states shared ≡ flat) }
     ensures fit { IfOk result AreFit }
 {
-    match narrowed(alloc, flat.parts())? {
-        Some(narrow) => Ok(StatePieces::Narrow(Rc::new(alloc, narrow)?)),
-        None => Ok(StatePieces::Wide(SharedPieces::Alone(flat).share(alloc)?)),
+    if let Some(narrow) = narrowed(alloc, flat.parts())? {
+        return Ok(StatePieces::Together(SharedStates::Narrow(Rc::new(alloc, narrow)?)));
+    }
+    match Few::of(flat.parts()) {
+        Some(few) => Ok(StatePieces::Few(few)),
+        None => Ok(StatePieces::Together(SharedStates::Wide(Rc::new(alloc, flat)?))),
     }
 }

@@ -3,11 +3,11 @@ use Rattle.std.specs.Prelude.{◌≤◌, ◌-◌, ℕ, List, [], ◌∷◌, leng
 use Rattle.std.specs.List.{All}
 use Rattle.std.specs.Rc.{rc_value}
 use Rattle.hv_sets.specs.Gathered.{Gathered}
-use Rattle.hv_sets.specs.Working.SharedPieces.{held_pieces}
 use Rattle.hv_sets.specs.declared.listed_state.KeptAtoms.{KeptAtoms}
 use Rattle.hv_sets.specs.declared.listed_state.KeptAtoms.TheVariants as K
 use Rattle.hv_sets.specs.declared.state_pieces.StatePieces.{StatePieces}
 use Rattle.hv_sets.specs.declared.state_pieces.StatePieces.TheVariants as P
+use Rattle.hv_sets.specs.declared.state_pieces.SharedStates.TheVariants as S
 
 -- the atoms of a state, each in four bytes or in one
 abbrev pub kept_atoms : KeptAtoms → List ℕ
@@ -30,10 +30,14 @@ AreShort from (end ∷ ends) = (end - from ≤ 64) × AreShort end ends
 
 -- the states of a list, however they are kept
 abbrev pub held_states : StatePieces → Gathered ℕ
-held_states (P.Wide pieces) = held_pieces pieces
-held_states (P.Narrow shared) = rc_value shared
+held_states (P.Together (S.Wide shared)) = rc_value shared
+held_states (P.Together (S.Narrow shared)) = rc_value shared
+held_states (P.Alone flat) = flat
+held_states (P.Few few) = few
 
 -- only short states are kept in one byte an atom
 abbrev pub AreFit : StatePieces → Type 0
-AreFit (P.Wide pieces) = ⊤
-AreFit (P.Narrow shared) = All HasFewAtoms (rc_value shared).whole
+AreFit (P.Together (S.Wide shared)) = ⊤
+AreFit (P.Together (S.Narrow shared)) = All HasFewAtoms (rc_value shared).whole
+AreFit (P.Alone flat) = ⊤
+AreFit (P.Few few) = ⊤

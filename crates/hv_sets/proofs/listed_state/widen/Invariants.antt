@@ -1,4 +1,4 @@
-use Rattle.std.proofs.Common.{◌≡◌, take, length}
+use Rattle.std.proofs.Common.{◌≡◌, take}
 use Rattle.hv_sets.proofs.listed_state.widen.Given as goal
 
 abbrev pub invariant-loop-place : goal.invariant-loop-place
