@@ -11,11 +11,10 @@ use Rattle.hv_sets.specs.declared.operand.Operand.{Operand}
 use Rattle.hv_sets.specs.declared.operand.Which.{Which}
 use Rattle.hv_sets.specs.declared.operand.Which.TheVariants as W
 use Rattle.hv_sets.specs.Cubes.{opposite}
-use Rattle.hv_indexes.specs.declared.occurrences.SignedOccurrences.{SignedOccurrences}
 use Rattle.hv_clauses.specs.declared.literal_owners.SignedOwners.{SignedOwners}
 use Rattle.hv_indexes.specs.declared.rows.RowHead.{RowHead}
 use Rattle.hv_propagation.specs.Effect.{late}
-use Rattle.hv_indexes.specs.Occurrences.{AreOccurrences}
+use Rattle.hv_indexes.specs.Occurrences.{AreOccurrences, SignedRows}
 use Rattle.hv_clauses.specs.Working.Owners.{AreSignedOwners, Gains, HasLiteral, IsCodeOfHead}
 use Rattle.hv_clauses.specs.Working.Owners.{ListsUpto, Owns, PutsOwner}
 use Rattle.hv_clauses.specs.Working.Posed.{ProblemState, formulas}
@@ -27,10 +26,10 @@ use Rattle.hv_propagation.proofs.Chasing.{kept_beyond}
 use Rattle.hv_indexes.proofs.Keyed.{code_is, key_of-code, row_from}
 
 -- each atom that stands somewhere with this sign has a head
-pub head_of : (sign : Bool) (clauses : List (List Literal)) (signed : SignedOccurrences)
+pub head_of : (sign : Bool) (clauses : List (List Literal)) (signed : SignedRows)
     → AreOccurrences sign clauses signed → (atom place : ℕ) → StandsAs sign clauses atom place
-    → (j : ℕ) × (j < length signed.heads.items)
-    × ((d : RowHead) → (get_or signed.heads.items j d).key ≡ atom)
+    → (j : ℕ) × (j < length signed.heads)
+    × ((d : RowHead) → (get_or signed.heads j d).key ≡ atom)
 head_of sign clauses signed are atom place stands =
     let small = are.coded.small atom place stands in
     let own = (are.coded.has (code atom place)).1 (atom, place, refl, small, stands) in
@@ -51,9 +50,9 @@ number_in W.Goal = 0
 -- where the codes of the heads of an operand's set were put, its literals were
 pub puts_owner : (p : ProblemState) (operand : Operand) (number : ℕ) → operand.which ≡ W.Set number
     → (sign : Bool) (clauses : List (List Literal)) → clauses ≡ formulas p number
-    → (signed : SignedOccurrences) → AreOccurrences sign clauses signed → (place : ℕ) (old new :
+    → (signed : SignedRows) → AreOccurrences sign clauses signed → (place : ℕ) (old new :
     List ℕ)
-    → Gains (IsCodeOfHead signed.heads.items place) old new
+    → Gains (IsCodeOfHead signed.heads place) old new
     → PutsOwner p operand sign place old new
 unfolding number_in
 puts_owner p operand number which sign clauses same signed are place old new gains = record {

@@ -18,7 +18,7 @@ ghost use Rattle.hv_clauses.specs.Working.Posed.{ProblemState as ProblemOf};
 
 use crate::problem::Problem;
 use hv_formula::ClauseKind;
-use hv_indexes::{RowHead, SignedOccurrences, rows};
+use hv_indexes::{RowHead, rows};
 use hv_sets::{Literal, Operand, Which};
 use std::alloc::{AllocError, Global};
 
@@ -139,21 +139,17 @@ fn put_operand<K: ClauseKind>(
         return Ok(());
     };
     let signed = problem.set(number).occurs().signed(sign);
-    put_heads(codes, signed, place)?;
+    put_heads(codes, signed.heads, place)?;
     Ok(())
 }
 
 // Puts the codes of the literals last that stand somewhere, with this place.
-fn put_heads(
-    codes: &mut Vec<usize>,
-    signed: &SignedOccurrences,
-    place: u32,
-) -> Result<(), AllocError>
+fn put_heads(codes: &mut Vec<usize>, heads: &[RowHead], place: u32) -> Result<(), AllocError>
     ensures { OnOk result
-        (Gains (IsCodeOfHead signed.now.heads.items place) codes.old.items codes.new.items) }
+        (Gains (IsCodeOfHead heads.now place) codes.old.items codes.new.items) }
 {
-    for index in 0..signed.heads.len() {
-        codes.push(rows::code_of(signed.heads[index].key, place))?;
+    for index in 0..heads.len() {
+        codes.push(rows::code_of(heads[index].key, place))?;
     }
     Ok(())
 }
@@ -169,8 +165,8 @@ pub(crate) fn size_of<K: ClauseKind>(problem: &Problem<'_, K>) -> usize {
     for operand in positive {
         if let Which::Set(number) = operand.which {
             let occurs = problem.set(number).occurs();
-            size = size.saturating_add(occurs.negative.heads.len());
-            size = size.saturating_add(occurs.positive.heads.len());
+            size = size.saturating_add(occurs.signed(false).heads.len());
+            size = size.saturating_add(occurs.signed(true).heads.len());
         }
     }
     size

@@ -164,11 +164,9 @@ one_only (x ∷ []) d one = refl
 one_only (x ∷ y ∷ xs) d one = absurd (omega (arith, one))
 
 -- one clause with one literal
-pub lone_of : (clauses : List (List Literal)) (clause : List Literal) → length clauses ≡ 1
-    → slice_get clauses 0 ≡ Some clause → length clause ≡ 1 → IsLone clauses
-lone_of clauses clause one at short =
-    let d : Literal = record { atom = 0; positive = false } in (
-      get_or clause 0 d,
-      one_only clauses clause one ∙ ap (λ c. c ∷ [])
-          (get_or_from_slice_get clauses 0 clause clause at ∙ one_only clause d short),
-    )
+pub lone_is : (clauses : List (List Literal)) (clause : List Literal) → length clauses ≡ 1
+    → slice_get clauses 0 ≡ Some clause → length clause ≡ 1 → (d : Literal)
+    → clauses ≡ (get_or clause 0 d ∷ []) ∷ []
+lone_is clauses clause one at short d =
+    one_only clauses clause one ∙ ap (λ c. c ∷ [])
+    (get_or_from_slice_get clauses 0 clause clause at ∙ one_only clause d short)

@@ -3,15 +3,16 @@
 //!
 //! These are kept as literals by rising atoms, and not as a mark an atom, so that many small
 //! formulas over many atoms take memory by their size. Of one clause of one literal nothing is
-//! kept: that literal is what it forces, so the clause itself is handed out. What `unit_rounds` of
+//! kept, and no block of memory is taken: that literal is what it forces, so the clause itself is
+//! handed out. What `unit_rounds` of
 //! hv_propagation don't come to the end of is found out along a trail.
 //!
 //! Where values have to be tried to find a state, propagation doesn't show that there is none. This
 //! is found out here too, once for a formula, unless it has fewer clauses than a sixteenth of the
 //! atoms: each query about it would have to, and there may be one for each action.
 
-ghost use Rattle.std.specs.Prelude.{◌≡◌, ◌<◌, ◌≤◌, ◌+◌, ◌^◌, ℕ, IfOk, None, true, false, length};
-ghost use Rattle.std.specs.Prelude.{[], List, Bool};
+ghost use Rattle.std.specs.Prelude.{◌≡◌, ◌<◌, ◌≤◌, ◌+◌, ◌∷◌, ◌^◌, ℕ, IfOk, IfSome, None, true};
+ghost use Rattle.std.specs.Prelude.{[], List, Bool, false, length};
 ghost use Rattle.std.specs.List.{All};
 ghost use Rattle.std.specs.List.Sorted.{IsStrictlyIncreasing};
 ghost use Rattle.hv_sets.specs.Cubes.{atoms_of};
@@ -20,7 +21,7 @@ ghost use Rattle.hv_propagation.specs.Clauses.{AreClauses};
 ghost use Rattle.hv_propagation.specs.Chase.{AreKept};
 ghost use Rattle.hv_propagation.specs.declared.completion.Completion.TheVariants as Ways;
 ghost use Rattle.hv_propagation.specs.Forced.{AreForced, AreNever};
-ghost use Rattle.hv_formula.specs.Working.Closure.{IsBasis, IsClosure, IsLone, ListsBelow};
+ghost use Rattle.hv_formula.specs.Working.Closure.{IsBasis, IsClosure, ListsBelow};
 ghost use Rattle.hv_propagation.specs.Marks.{known, Agrees};
 ghost use Rattle.hv_indexes.specs.Occurrences.{IsIndexOf};
 ghost use Rattle.hv_propagation.specs.Trail.{marked, marks_of};
@@ -42,12 +43,13 @@ const FEW: usize = 16;
 #[derive(Drop)]
 pub(crate) struct Closure {
     pub occurs: Occurrences,
+    pub forced: Vec<Literal>,
+    /// How many entries the places take that looks into these clauses remember; in 32 bits, since
+    /// a line has fewer than 8,388,608 clauses.
+    pub watches: u32,
     pub broken: bool,
     /// Whether they are one clause of one literal, which isn't listed then.
     pub lone: bool,
-    pub forced: Vec<Literal>,
-    /// How many entries the places take that looks into these clauses remember.
-    pub watches: usize,
 }
 
 impl Closure {
@@ -67,25 +69,25 @@ impl Closure {
         if clauses.len() > 1 << 32 {
             return Err(AllocError);
         }
-        let occurs = Occurrences::new(alloc, clauses)?;
-        if is_lone(clauses) {
-            return Ok(Closure::of_lone(alloc, occurs));
+        if let Some(literal) = lone_literal(clauses) {
+            return Ok(Closure::of_lone(alloc, literal));
         }
+        let occurs = Occurrences::new(alloc, clauses)?;
         Closure::of_any::<K>(alloc, atoms, clauses, occurs)
     }
 
-    // The same of one literal, where this is the index.
-    fn of_lone(alloc: Global, occurs: Occurrences) -> Closure
-        ensures occurs { result.occurs ≡ occurs }
+    // The same of a literal that is the one clause.
+    fn of_lone(alloc: Global, literal: Literal) -> Closure
+        ensures index { IsIndexOf ((literal ∷ []) ∷ []) result.occurs }
         ensures broken { result.broken ≡ false }
         ensures lone { result.lone ≡ true }
     {
         Closure {
-            occurs,
-            broken: false,
-            lone: true,
+            occurs: Occurrences::of_lone(literal),
             forced: Vec::new(alloc),
             watches: 0,
+            broken: false,
+            lone: true,
         }
     }
 
@@ -115,26 +117,26 @@ impl Closure {
         let broken = !find_out::<K>(alloc, &basis, &mut forced)?;
         Ok(Closure {
             occurs,
+            forced,
+            watches: watches.min(u32::MAX as usize) as u32,
             broken,
             lone: false,
-            forced,
-            watches,
         })
     }
 }
 
-// Whether the clauses are one literal.
-fn is_lone(clauses: &Clauses) -> bool
-    ensures { result ≡ true → IsLone clauses.now }
+/// The literal that is the one clause, if there is no other clause, nor another literal in it.
+pub(crate) fn lone_literal(clauses: &Clauses) -> Option<Literal>
+    ensures { IfSome result (λ literal. clauses.now ≡ (literal ∷ []) ∷ []) }
 {
     if clauses.len() != 1 {
-        return false;
+        return None;
     }
     let clause = clauses.get(0);
     if clause.len() != 1 {
-        return false;
+        return None;
     }
-    true
+    Some(clause[0])
 }
 
 // What a closure is worked out from: clauses that speak of so many atoms, and how many entries the
@@ -314,7 +316,7 @@ fn try_each<K: ClauseKind>(bare: &BareClauses<'_>, marks: &mut Assignment<'_>) -
     requires left { AreKept [] bare.now.clauses.now marks.old (length marks.old.trail) }
     ensures { result ≡ false → AreNever (length marks.old.roots) bare.now.clauses.now }
 {
-    let heads = bare.occurs.signed(true).heads.as_slice();
+    let heads = bare.occurs.signed(true).heads;
     for index in 0..heads.len() {
         let atom = heads[index].key;
         if atom as usize >= marks.atoms() {

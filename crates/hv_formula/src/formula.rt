@@ -15,7 +15,7 @@ ghost use Rattle.hv_propagation.specs.Clauses.{AreClauses};
 ghost use Rattle.hv_formula.specs.Clausal.{in_formula};
 ghost use Rattle.hv_propagation.specs.Forced.{AreForced, AreNever};
 ghost use Rattle.hv_formula.specs.Denial.{steps_of};
-ghost use Rattle.hv_indexes.specs.Implied.{AreImplied};
+ghost use Rattle.hv_indexes.specs.Implied.{AreImplications, AreImplied};
 ghost use Rattle.hv_formula.specs.Working.Kinded.{IsKinded};
 ghost use Rattle.hv_formula.specs.Working.Laws as laws;
 ghost use Rattle.hv_formula.specs.Working.Lists.{AreListsOf};
@@ -25,7 +25,7 @@ ghost use Rattle.hv_formula.specs.declared.kept_lists.KeptLists.TheVariants as L
 ghost use Rattle.hv_indexes.specs.Occurrences.{IsIndexOf};
 
 use crate::clause_kind::ClauseKind;
-use crate::closure::Closure;
+use crate::closure::{Closure, lone_literal};
 use crate::kept_lists::KeptLists;
 use crate::{denial, meet};
 use hv_indexes::{ImplicationLists, Occurrences};
@@ -41,7 +41,7 @@ pub struct Formula<K: ClauseKind> {
     atoms: u32,
     clauses: Clauses,
     closure: Closure,
-    lists: Option<Box<ImplicationLists>>,
+    lists: ImplicationLists,
     kind: PhantomData<K>,
 }
 
@@ -134,15 +134,12 @@ impl<K: ClauseKind> Formula<K> {
         requires atom { literal.atom < self.now.atoms }
         ensures { AreImplied self.now.clauses literal result.now }
     {
-        match &self.lists {
-            Some(lists) => lists.row(literal),
-            None => unreachable!(),
-        }
+        self.lists.row(literal)
     }
 
     /// How many entries the places take that looks into its clauses remember.
     pub fn watches(&self) -> usize {
-        self.closure.watches
+        self.closure.watches as usize
     }
 
     /// Where their literals stand.
@@ -242,7 +239,7 @@ impl<K: ClauseKind> StateSet for Formula<K> {
 
     fn meets(&self, alloc: Global, cube: &Cube, scratch: &mut Scratch) -> Result<bool, AllocError> {
         let _ = alloc;
-        let entries = self.clauses.len().max(self.closure.watches);
+        let entries = self.clauses.len().max(self.watches());
         scratch.reserve(self.atoms, 0, entries)?;
         Ok(self.meets_in(cube, scratch))
     }
@@ -297,17 +294,30 @@ fn lists_of(
     listing: KeptLists,
     clauses: &Clauses,
     occurs: &Occurrences,
-) -> Result<Option<Box<ImplicationLists>>, AllocError>
+) -> Result<ImplicationLists, AllocError>
     requires below { All (SpeakBelow (2 ^ 31)) clauses.now }
     requires index { IsIndexOf clauses.now occurs.now }
     ensures { IfOk result (AreListsOf listing clauses.now) }
 {
     match listing {
-        KeptLists::Negative => Ok(None),
-        KeptLists::Implied => {
-            let lists = ImplicationLists::of(alloc, clauses, occurs)?;
-            Ok(Some(Box::new(alloc, lists)?))
-        }
+        KeptLists::Negative => Ok(ImplicationLists::none()),
+        KeptLists::Implied => implications_of(alloc, clauses, occurs),
+    }
+}
+
+// What each literal implies at once.
+fn implications_of(
+    alloc: Global,
+    clauses: &Clauses,
+    occurs: &Occurrences,
+) -> Result<ImplicationLists, AllocError>
+    requires below { All (SpeakBelow (2 ^ 31)) clauses.now }
+    requires index { IsIndexOf clauses.now occurs.now }
+    ensures { IfOk result (AreImplications clauses.now) }
+{
+    match lone_literal(clauses) {
+        Some(literal) => Ok(ImplicationLists::of_lone(literal)),
+        None => ImplicationLists::of(alloc, clauses, occurs),
     }
 }
 

@@ -6,13 +6,12 @@ use Rattle.std.proofs.lemmas.List.{get_or_default}
 use Rattle.std.specs.List.{Contains}
 use Rattle.hv_sets.specs.declared.literal.Literal.{Literal}
 use Rattle.hv_sets.specs.Cubes.{opposite}
-use Rattle.hv_indexes.specs.declared.occurrences.SignedOccurrences.{SignedOccurrences}
 use Rattle.hv_indexes.specs.declared.rows.RowHead.{RowHead}
 use Rattle.hv_indexes.specs.Places.{clause_at}
 use Rattle.hv_indexes.specs.Implied.{IsPair, literal_number}
 use Rattle.hv_indexes.specs.Working.Implied.{IsCodedIn, IsImpliedCode, PutsImplied, PutsSigned}
 use Rattle.hv_indexes.specs.Working.Implied.{PutsUpto, pair_code}
-use Rattle.hv_indexes.specs.Occurrences.{AreOccurrences}
+use Rattle.hv_indexes.specs.Occurrences.{AreOccurrences, SignedRows}
 use Rattle.hv_indexes.specs.Working.Rows.{ListsCodes, PutsCodes}
 use Rattle.hv_indexes.specs.Rows.{code, key_of}
 use Rattle.hv_indexes.specs.Signed.{StandsAs}
@@ -126,10 +125,10 @@ module _ (turned : Bool) (clauses : List (List Literal)) (own : Literal) (places
   }
 
 -- where a literal stands, its atom has a head
-head_of_atom : (sign : Bool) (clauses : List (List Literal)) (listed : SignedOccurrences)
+head_of_atom : (sign : Bool) (clauses : List (List Literal)) (listed : SignedRows)
     → AreOccurrences sign clauses listed → (atom place : ℕ) → StandsAs sign clauses atom place
-    → (j : ℕ) × (j < length listed.heads.items)
-    × ((d : RowHead) → (get_or listed.heads.items j d).key ≡ atom)
+    → (j : ℕ) × (j < length listed.heads)
+    × ((d : RowHead) → (get_or listed.heads j d).key ≡ atom)
 head_of_atom sign clauses listed are atom place stands =
     let few = are.coded.small atom place stands in
     let has = (are.coded.has (code atom place)).1 (atom, place, refl, few, stands) in
@@ -172,10 +171,10 @@ module _ (turned : Bool) (clauses : List (List Literal)) (sign : Bool)
   }
 
 -- all heads
-pub heads_all : (turned sign : Bool) (clauses : List (List Literal)) (listed : SignedOccurrences)
+pub heads_all : (turned sign : Bool) (clauses : List (List Literal)) (listed : SignedRows)
     → AreOccurrences sign clauses listed → (at : ℕ) (old new : List ℕ)
-    → length listed.heads.items ≤ at
-    → PutsUpto turned clauses sign listed.heads.items at old new
+    → length listed.heads ≤ at
+    → PutsUpto turned clauses sign listed.heads at old new
     → PutsSigned turned clauses sign old new
 heads_all turned sign clauses listed are at old new past puts = record {
   sound = puts.sound;

@@ -100,7 +100,7 @@ pub none_codes : (clause : List Literal) → ((a b : Literal) → IsPair clause 
     → IsImpliedCode clause c → ⊥
 none_codes clause none c is = none (opposite is.0) is.1 is.2
 
-number_fits : (l : Literal) → l.atom < 2147483648 → literal_number l < 4294967296
+pub number_fits : (l : Literal) → l.atom < 2147483648 → literal_number l < 4294967296
 number_fits l small = by l.positive
   where
     by : (sign : Bool) → 2 * l.atom + cond sign 0 1 < 4294967296

@@ -7,6 +7,7 @@ pub mod Gathered
 pub mod Standings
 pub mod Paired
 pub mod Implying
+pub mod Alone
 pub mod ImpliedRows
 pub mod Mated
 pub mod Screened

@@ -1,11 +1,14 @@
 -- What a literal implies at once.
-use Rattle.std.specs.Prelude.{◌≡◌, ◌<◌, ◌+◌, ◌*◌, ◌⊎◌, ◌↔◌, ℕ, List, [], cond, length}
+use Rattle.std.specs.Prelude.{◌≡◌, ◌<◌, ◌+◌, ◌*◌, ◌⊎◌, ◌↔◌, ◌∷◌, ℕ, List, [], cond}
+use Rattle.std.specs.Prelude.{length}
 use Rattle.std.specs.Prelude.{slice_index_or}
 use Rattle.std.specs.List.{All, Contains}
 use Rattle.std.specs.List.Sorted.{IsStrictlyIncreasing}
 use Rattle.hv_sets.specs.declared.literal.Literal.{Literal}
 use Rattle.hv_sets.specs.Cubes.{opposite}
 use Rattle.hv_indexes.specs.declared.implication_lists.ImplicationLists.{ImplicationLists}
+use Rattle.hv_indexes.specs.declared.implication_lists.ImplicationLists.TheVariants as I
+use Rattle.hv_indexes.specs.declared.rows.RowHead.{RowHead}
 use Rattle.hv_indexes.specs.Rows.{AreRows}
 
 -- the number of a literal: twice its atom, and one more where it is negative
@@ -42,7 +45,19 @@ ImpliesNumber clauses key number =
     (literal : Literal) × (other : Literal) × (key ≡ literal_number literal)
     × (number ≡ literal_number other) × Implies clauses literal other
 
+-- where the numbers of what each literal implies begin, by rising numbers of literals
+abbrev pub implied_heads : ImplicationLists → List RowHead
+implied_heads (I.Listed lists) = lists.value.heads.items
+implied_heads (I.Lone key numbers) = record { key = key; start = 0 } ∷ []
+implied_heads I.Nothing = []
+
+-- the numbers of what each literal implies, one after the other
+abbrev pub implied_numbers : ImplicationLists → List ℕ
+implied_numbers (I.Listed lists) = lists.value.numbers.items
+implied_numbers (I.Lone key numbers) = numbers
+implied_numbers I.Nothing = []
+
 -- the lists keep, for the number of each literal, the numbers of those that it implies at once
 abbrev pub AreImplications : List (List Literal) → ImplicationLists → Type 0
 AreImplications clauses lists =
-    AreRows (ImpliesNumber clauses) lists.heads.items lists.numbers.items
+    AreRows (ImpliesNumber clauses) (implied_heads lists) (implied_numbers lists)

@@ -55,19 +55,21 @@ pub(crate) fn codes_of(
 
 // Whether all literals are of one sign, and those that are beside each come in order.
 fn come_in_order(occurs: &Occurrences) -> bool {
-    if occurs.negative.heads.is_empty() {
-        return are_rows_in_order(&occurs.positive);
+    let negative = occurs.signed(false);
+    let positive = occurs.signed(true);
+    if negative.heads.is_empty() {
+        return are_rows_in_order(&positive);
     }
-    occurs.positive.heads.is_empty() && are_rows_in_order(&occurs.negative)
+    positive.heads.is_empty() && are_rows_in_order(&negative)
 }
 
 // Whether there are entries for the literals beside all of these, and those of each atom rise.
-fn are_rows_in_order(signed: &SignedOccurrences) -> bool {
-    let entries = signed.partners.as_slice();
+fn are_rows_in_order(signed: &SignedOccurrences<'_>) -> bool {
+    let entries = signed.partners;
     if entries.len() < signed.places.len() {
         return false;
     }
-    let heads = signed.heads.as_slice();
+    let heads = signed.heads;
     for at in 0..heads.len() {
         let upto = match heads.get(at + 1) {
             None => entries.len(),
@@ -104,7 +106,7 @@ fn put_signed(
     ensures { OnOk result
         (PutsSigned turned clauses.now sign codes.old.items codes.new.items) }
 {
-    let heads = occurs.signed(sign).heads.as_slice();
+    let heads = occurs.signed(sign).heads;
     for at in 0..heads.len() {
         put_atom(codes, clauses, occurs, sign, heads[at].key, turned)?;
     }

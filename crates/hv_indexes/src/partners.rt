@@ -16,7 +16,7 @@ ghost use Rattle.hv_indexes.specs.Implied.{IsPair};
 ghost use Rattle.hv_indexes.specs.Occurrences.{ArePartners, IsPartner, entry_or_none, no_literal};
 ghost use Rattle.hv_indexes.specs.Occurrences.{literal_of};
 ghost use Rattle.hv_indexes.specs.Places.{clause_at};
-ghost use Rattle.hv_indexes.specs.Working.Occurrences.{PutsEntry};
+ghost use Rattle.hv_indexes.specs.Working.Occurrences.{AreEntriesJoined, PutsEntry};
 ghost use Rattle.hv_indexes.specs.Working.Pairs.{AreEntryPairs, IsEntryPair};
 ghost use Rattle.hv_indexes.specs.Rows.{place_of_code};
 
@@ -106,7 +106,9 @@ pub(crate) fn entries_of(
     requires pairs { AreEntryPairs clauses.now pairs.now }
     requires inside { (k : ℕ) → k < length codes.now
         → place_of_code (slice_index codes.now k) < length clauses.now }
-    ensures { IfOk result (λ entries. ArePartners sign clauses.now codes.now entries.items) }
+    ensures partners { IfOk result
+        (λ entries. ArePartners sign clauses.now codes.now entries.items) }
+    ensures few { IfOk result (λ entries. length entries.items ≤ length codes.now) }
 {
     let mut entries = Vec::new(alloc);
     for place in 0..codes.len() {
@@ -171,6 +173,23 @@ fn put_entry(entries: &mut Vec<u32>, place: usize, entry: u32) -> Result<(), All
     }
     entries.push(entry)?;
     Ok(())
+}
+
+// The entries beside so many places, and behind them those beside others, if there are any.
+pub(crate) fn joined(first: Vec<u32>, upto: usize, second: Vec<u32>) -> Result<Vec<u32>, AllocError>
+    requires { length first.items ≤ upto }
+    ensures { IfOk result (λ joined. AreEntriesJoined first.items upto second.items joined.items) }
+{
+    if upto == 0 {
+        return Ok(second);
+    }
+    if second.is_empty() {
+        return Ok(first);
+    }
+    let mut joined = first;
+    joined.resize(upto, NONE)?;
+    joined.extend_from_slice(&second)?;
+    Ok(joined)
 }
 
 // The entry for the literal beside this one.

@@ -61,8 +61,8 @@ impl<'a> LiteralOrder<'a> {
     ) -> Result<LiteralOrder<'a>, AllocError> {
         let mut shared = Vec::new(alloc);
         if count >= MANY_CLAUSES && is_of_none(places) {
-            put_shared(&mut shared, count, &occurs.negative, false)?;
-            put_shared(&mut shared, count, &occurs.positive, true)?;
+            put_shared(&mut shared, count, &occurs.signed(false), false)?;
+            put_shared(&mut shared, count, &occurs.signed(true), true)?;
         }
         Ok(LiteralOrder { shared, places })
     }
@@ -80,10 +80,10 @@ fn is_of_none(places: Option<&[u32]>) -> bool {
 fn put_shared(
     shared: &mut Vec<Literal>,
     count: usize,
-    signed: &SignedOccurrences,
+    signed: &SignedOccurrences<'_>,
     positive: bool,
 ) -> Result<(), AllocError> {
-    let heads = signed.heads.as_slice();
+    let heads = signed.heads;
     for place in 0..heads.len() {
         let end = match heads.get(place + 1) {
             None => signed.places.len(),

@@ -17,6 +17,16 @@ pub(crate) struct SignedCodes {
     pub positive: Vec<usize>,
 }
 
+impl SignedCodes {
+    // Whether there is none.
+    pub(crate) fn is_empty(&self) -> bool
+        ensures negative { result ≡ true → self.now.negative.items ≡ [] }
+        ensures positive { result ≡ true → self.now.positive.items ≡ [] }
+    {
+        self.negative.is_empty() && self.positive.is_empty()
+    }
+}
+
 // The codes of all literals.
 pub(crate) fn codes_of(alloc: Global, clauses: &Clauses) -> Result<SignedCodes, AllocError>
     requires { length clauses.now ≤ 2 ^ 32 }

@@ -8,5 +8,5 @@ abbrev pub invariant-loop-index : goal.invariant-loop-index
 invariant-loop-index l = record {
   kept : (c : ℕ) → Contains l.fn.codes.items c → Contains l.codes.items c;
   more : (j : ℕ) → j < l.index → (d : RowHead)
-      → Contains l.codes.items (code (get_or l.signed.heads.items j d).key l.place);
+      → Contains l.codes.items (code (get_or l.heads j d).key l.place);
 }

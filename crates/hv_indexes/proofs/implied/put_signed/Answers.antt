@@ -1,14 +1,13 @@
-use Rattle.std.proofs.Common.{ap, arith, length, subst, sym}
+use Rattle.std.proofs.Common.{ap, arith, subst, sym}
 use Rattle.std.proofs.lemmas.List.{get_or_default}
 use Rattle.hv_indexes.specs.declared.rows.RowHead.{RowHead}
-use Rattle.hv_indexes.specs.Working.Implied.{PutsUpto}
-use Rattle.hv_indexes.specs.Occurrences.{AreOccurrences}
+use Rattle.hv_indexes.specs.Occurrences.{AreOccurrences, lent_rows}
 use Rattle.hv_indexes.proofs.ImpliedRows.{heads_all, heads_more}
 use Rattle.hv_indexes.proofs.implied.put_signed.Goals as goal
 
 pub loop-at-preserved : goal.loop-at-preserved
 loop-at-preserved c =
-    let heads = c.as_slice-heads.result.now in
+    let heads = c.signed.result.heads.now in
     let at = c.loop-at.at in
     heads_more c.args.turned c.args.clauses.now c.args.sign heads at _ c.args.codes.now.items
     c.loop-at.codes.items c.put_atom.new.codes.items
@@ -19,14 +18,10 @@ pub returns : goal.returns
 returns c =
     let clauses = c.args.clauses.now in
     let sign = c.args.sign in
-    let listed = c.signed.result.now in
+    let listed = lent_rows c.signed.result in
     let old = c.args.codes.now.items in
     let new = c.loop-at.codes.items in
-    let same = c.as_slice-heads.ensures.value in
-    let size = ap length same in
     let end = c.loop-at-test.false in
     heads_all c.args.turned sign clauses listed
     (subst (AreOccurrences sign clauses) (sym c.signed.ensures) (c.requires.index sign))
-    c.loop-at.at old new (omega arith)
-    (subst (λ hs. PutsUpto c.args.turned clauses sign hs c.loop-at.at old new) same
-    c.loop-at.invariant)
+    c.loop-at.at old new (omega arith) c.loop-at.invariant

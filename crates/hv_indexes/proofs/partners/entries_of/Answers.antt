@@ -32,5 +32,5 @@ loop-place-preserved c =
           (subst (λ n. IsPartner (clause_at clauses n) own entry) c.number_in-number.ensures here)));
     }
 
-pub returns : goal.returns
-returns c = λ k less. c.loop-place.invariant.each k (omega (arith, less, c.loop-place-test.false))
+pub returns-clause-partners : goal.returns-clause-partners
+returns-clause-partners c = λ k less. c.loop-place.invariant.each k (omega (arith, less, c.loop-place-test.false))

@@ -1,8 +1,18 @@
-use Rattle.std.proofs.Common.{ℕ, List, ◌<◌, length, get_or, sym, subst}
-use Rattle.hv_indexes.specs.Occurrences.{ArePartners}
+use Rattle.std.proofs.Common.{◌∙◌, ℕ, List, ◌<◌, length, get_or, sym, subst}
+use Rattle.std.proofs.lemmas.Bool.{eqb-true}
+use Rattle.std.proofs.lemmas.List.{nil_from_length}
+use Rattle.hv_indexes.specs.Occurrences.{AreOccurrences, ArePartners}
 use Rattle.hv_indexes.specs.Rows.{AreHeads, place_of_code}
+use Rattle.hv_indexes.proofs.Alone.{empty_rows}
 use Rattle.hv_indexes.proofs.Gathered.{signed_coded, signed_inside}
-use Rattle.hv_indexes.proofs.occurrences.SignedOccurrences.new.Goals as goal
+use Rattle.hv_indexes.proofs.occurrences.SignedLists.new.Goals as goal
+
+pub returns-then-is_empty-clause-rows : goal.returns-then-is_empty-clause-rows
+returns-then-is_empty-clause-rows c =
+    subst (AreOccurrences c.args.sign c.args.clauses.now) (sym c.none.ensures)
+    (empty_rows c.args.sign c.args.clauses.now c.args.codes.items c.requires.few c.requires.codes
+    (nil_from_length c.args.codes.items
+    (sym c.args.codes.ok.0 ∙ eqb-true _ 0 (sym c.is_empty.ensures ∙ c.if-is_empty.true))))
 
 pub entries_of-requires-clause-inside : goal.entries_of-requires-clause-inside
 entries_of-requires-clause-inside c =
@@ -11,8 +21,8 @@ entries_of-requires-clause-inside c =
     (signed_inside c.args.sign c.args.clauses.now c.args.codes.items
     c.sort_by_keys.new.codes.items c.requires.few c.requires.codes c.in_ok-sort_by_keys.ensures.has)
 
-pub returns : goal.returns
-returns c =
+pub returns-clause-rows : goal.returns-clause-rows
+returns-clause-rows c =
     let codes = c.sort_by_keys.new.codes.items in
     record {
       codes = codes;
@@ -22,5 +32,5 @@ returns c =
           c.strip.new.codes.items c.requires.few c.requires.codes c.in_ok-sort_by_keys.ensures.rises
           c.in_ok-sort_by_keys.ensures.has c.strip.ensures;
       partners = subst (λ cs. ArePartners c.args.sign c.args.clauses.now cs
-          c.in_ok-partners.partners.items) c.deref-2.ensures.value c.in_ok-partners.ensures;
+          c.in_ok-partners.partners.items) c.deref-2.ensures.value c.in_ok-partners.ensures.partners;
     }
