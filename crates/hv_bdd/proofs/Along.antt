@@ -13,9 +13,8 @@ use Rattle.hv_paths.specs.Along.{IsBarren}
 use Rattle.hv_bdd.specs.Nodes.{IsNode, NodeList, in_node}
 use Rattle.hv_bdd.specs.declared.level.Level.{Level}
 use Rattle.hv_bdd.specs.Exclusions.{AreExclusions}
-use Rattle.hv_bdd.specs.Fronts.{AreBelowBound, AreFronts, HoldCube, IsLevel, IsMetNowhere}
-use Rattle.hv_bdd.specs.Fronts.{StandsAlong}
-use Rattle.hv_bdd.specs.Working.Fronts.{GoesDeeper, IsNextLevel, MovesTo, Turns}
+use Rattle.hv_bdd.specs.Fronts.{AreBelowBound, AreFronts, HoldCube, IsLevel, StandsAlong}
+use Rattle.hv_bdd.specs.Working.Fronts.{GoesDeeper, IsMetNowhere, IsNextLevel, MovesTo, Turns}
 
 pub in_push : (ls : List Literal) (l : Literal) (s : List Bool)
     → in_cube (ls ++ l ∷ []) s ≡ (in_cube ls s && in_literal l s)

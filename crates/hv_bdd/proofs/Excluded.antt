@@ -18,11 +18,12 @@ use Rattle.hv_bdd.specs.declared.node_exclusions.Landing.{Landing}
 use Rattle.hv_bdd.specs.declared.level.Level.{Level}
 use Rattle.hv_bdd.specs.declared.node.Node.{Node}
 use Rattle.hv_bdd.specs.Exclusions.{AreExclusions, IsBatch, bit_of, word_place}
-use Rattle.hv_bdd.specs.Fronts.{AreBelowBound, HoldCube, IsLevel, IsMetNowhere}
+use Rattle.hv_bdd.specs.Fronts.{AreBelowBound, HoldCube, IsLevel}
 use Rattle.hv_bdd.specs.Nodes.{NodeList, in_node, node_count}
 use Rattle.hv_bdd.specs.Reduced.{IsReduced, child, node_at}
 use Rattle.hv_bdd.specs.Working.Excluding.{AreLandings, AreMasks, HasExclusion, IsExcluded}
 use Rattle.hv_bdd.specs.Working.Excluding.{IsLanding, IsMask}
+use Rattle.hv_bdd.specs.Working.Fronts.{IsMetNowhere}
 use Rattle.hv_bdd.specs.Working.Walking.{child_less, in_inner}
 use Rattle.hv_bdd.proofs.Advanced.{not_bad}
 use Rattle.hv_bdd.proofs.Along.{in_push}

@@ -21,11 +21,6 @@ HoldCube list inside node cube front =
     (s : List Bool) → in_cube cube s ≡ true → in_node list node s ≡ inside
     → (x : ℕ) × Contains front x × (in_node list x s ≡ inside)
 
--- no state of the cube is in the node, or outside it
-abbrev pub IsMetNowhere : NodeList → Bool → ℕ → List Literal → Type 0
-IsMetNowhere list inside node cube =
-    (s : List Bool) → in_cube cube s ≡ true → in_node list node s ≡ inside → ⊥
-
 -- Both lists of nodes are met after this cube, the second one where it is ready.
 pub record IsLevel (list : NodeList) (inside : Bool) (node : ℕ) (cube : List Literal)
     (level : Level) : Type 0 where

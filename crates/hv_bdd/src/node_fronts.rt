@@ -2,7 +2,8 @@
 
 ghost use Rattle.std.specs.Prelude.{◌≡◌, ◌∷◌, [], IfOk, OnOk, true, length};
 ghost use Rattle.hv_sets.specs.Cubes.{SpeakBelow};
-ghost use Rattle.hv_bdd.specs.Fronts.{AreFronts, IsMetNowhere};
+ghost use Rattle.hv_bdd.specs.Fronts.{AreFronts};
+ghost use Rattle.hv_bdd.specs.Working.Fronts.{IsMetNowhere};
 
 use crate::level::{Level, NodeSide, deepen};
 use hv_sets::Literal;

@@ -3,7 +3,7 @@ use Rattle.std.specs.Prelude.{◌≡◌, ◌<◌, ◌≤◌, ◌+◌, ◌++◌, 
 use Rattle.std.specs.Prelude.{slice_index_or}
 use Rattle.std.specs.List.{Contains}
 use Rattle.hv_sets.specs.declared.literal.Literal.{Literal}
-use Rattle.hv_sets.specs.Truth.{in_literal}
+use Rattle.hv_sets.specs.Truth.{in_cube, in_literal}
 use Rattle.hv_bdd.specs.Nodes.{NodeList, in_node}
 use Rattle.hv_bdd.specs.declared.level.Level.{Level}
 use Rattle.hv_bdd.specs.Fronts.{AreBelowBound}
@@ -66,3 +66,8 @@ pub record GoesDeeper (list : NodeList) (inside : Bool) (bound : ℕ) (literal :
   pub before : (i : ℕ) (d : Level) → i < depth → slice_index_or new i d ≡ slice_index_or old i d
   pub next : (d : Level) → IsNextLevel list inside bound literal (slice_index_or old depth d)
       (slice_index_or new depth d) (slice_index_or new (depth + 1) d)
+
+-- no state of the cube is in the node, or outside it
+abbrev pub IsMetNowhere : NodeList → Bool → ℕ → List Literal → Type 0
+IsMetNowhere list inside node cube =
+    (s : List Bool) → in_cube cube s ≡ true → in_node list node s ≡ inside → ⊥

@@ -2,8 +2,9 @@ use Rattle.std.proofs.Common.{◌≡◌, ◌<◌, ◌∙◌, ◌++◌, ◌∷◌
 use Rattle.std.proofs.lemmas.List.Elements.{All-push}
 use Rattle.hv_sets.specs.Cubes.{SpeakBelow}
 use Rattle.hv_sets.specs.declared.literal.Literal.{Literal}
-use Rattle.hv_bdd.specs.Fronts.{AreFronts, IsMetNowhere}
+use Rattle.hv_bdd.specs.Fronts.{AreFronts}
 use Rattle.hv_bdd.specs.Working.Excluding.{HasExclusion}
+use Rattle.hv_bdd.specs.Working.Fronts.{IsMetNowhere}
 use Rattle.hv_bdd.proofs.Along.{along_again, fronts_pushed, none_wanted}
 use Rattle.hv_bdd.proofs.Excluded.{excluded_nowhere}
 use Rattle.hv_bdd.proofs.Jumped.{at_node_same}
