@@ -88,6 +88,13 @@ fn meeting_set(alloc: Global) -> Result<Explicit, AllocError>
     Ok(set)
 }
 
+fn put_in(state: &mut State, atom: u32)
+    requires { atom < length state.old }
+    ensures { length state.new ≡ length state.old }
+{
+    state.set(atom, true);
+}
+
 // Whether the set has the state of these three atoms.
 fn has(
     alloc: Global,
@@ -101,9 +108,10 @@ fn has(
     requires second { second < ATOMS }
     requires third { third < ATOMS }
 {
-    let held = three_of(alloc, first, second, third)?;
     let mut state = State::empty(alloc, ATOMS)?;
-    state.hold(held.as_slice());
+    put_in(&mut state, first);
+    put_in(&mut state, second);
+    put_in(&mut state, third);
     Ok(set.holds(&state))
 }
 
