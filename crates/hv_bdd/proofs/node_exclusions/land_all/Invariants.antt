@@ -1,7 +1,7 @@
 use Rattle.std.proofs.Common.{[]}
 use Rattle.hv_bdd.specs.Fronts.{AreFronts}
 use Rattle.hv_bdd.specs.Working.Excluding.{AreLandings}
-use Rattle.hv_bdd.proofs.node_exclusions.landings_of.Given as goal
+use Rattle.hv_bdd.proofs.node_exclusions.land_all.Given as goal
 
 abbrev pub invariant-loop-number : goal.invariant-loop-number
 invariant-loop-number l =
