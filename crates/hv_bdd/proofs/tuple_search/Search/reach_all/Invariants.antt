@@ -1,6 +1,6 @@
 use Rattle.std.proofs.Common.{◌≡◌, ◌-◌}
 use Rattle.hv_bdd.specs.Working.Search.{AreMarksOf, Explored}
-use Rattle.hv_bdd.proofs.tuple_search.Search.reach.Given as goal
+use Rattle.hv_bdd.proofs.tuple_search.Search.reach_all.Given as goal
 
 abbrev pub invariant-loop-done : goal.invariant-loop-done
 invariant-loop-done l = record {
