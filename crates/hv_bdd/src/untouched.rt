@@ -200,7 +200,7 @@ impl Search<'_> {
             }
             Swept::Unsettled => {
                 self.keep_crowded(waiting.crowded, known);
-                *waiting = WaitingTuples::none(alloc);
+                waiting.give_back(alloc);
                 self.find_among_all(alloc, budget, state, known)
             }
         }
@@ -248,9 +248,27 @@ impl Search<'_> {
         ensures known { OnOk result (IsKeptTrulyFor self.old known.new) }
     {
         let reached = self.reach(alloc, budget)?;
-        self.count_calm(&reached, known);
-        self.keep(budget, &reached, known);
-        Ok(self.conclude(budget, &reached, state))
+        Ok(self.conclude_and_keep(budget, &reached, state, known))
+    }
+
+    // What was found, where these tuples were reached by a search that made no sweep. What it tells
+    // of other actions is kept.
+    fn conclude_and_keep(
+        &self,
+        budget: u64,
+        reached: &Reached,
+        state: &mut State,
+        known: &mut Option<Untouched>,
+    ) -> Finding
+        requires done { IsDone self.now budget reached.now }
+        requires state { length state.old ≡ self.now.setting.list.atoms }
+        requires known { IsKeptTrulyFor self.now known.old }
+        ensures answer { IsLiveAnswer result self.now.setting self.now.asked budget state.new }
+        ensures known { IsKeptTrulyFor self.now known.new }
+    {
+        self.count_calm(reached, known);
+        self.keep(budget, reached, known);
+        self.conclude(budget, reached, state)
     }
 
     // Keeps what a sweep found, which reached so many tuples and passed these places.
