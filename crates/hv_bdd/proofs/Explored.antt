@@ -258,17 +258,19 @@ module _ {O : Type 0} (m : Moves O) (os : List O) (root : List ℕ) where
       }))
   first_put ts ls (Some t) link is put = elim put [
     | inl old ↦ let less = old.0.1 in absurd (omega arith)
-    | inr new ↦ subst (λ a. Known 0 a ls) (sym new.1) (subst (Known 0 (t ∷ [])) (sym new.2) (record {
-      size = refl;
-      upto = omega arith;
-      reached = All-push (IsReached m os root) [] t (All-nil (IsReached m os root)) ([], sym is);
-      apart = λ i j less within same_tuple. absurd (omega arith);
-      roots = λ u e. let same_tuple : t ≡ u = cc in (0, omega arith, same_tuple);
-      first = λ some. sym is;
-      closed = λ k b u less e. absurd (omega arith);
-      parent = λ k some within. absurd (omega arith);
-      linked = λ k some within. absurd (omega arith);
-    }))
+    | inr new ↦
+        subst (λ a. Known 0 a ls) (sym new.1) (subst (Known 0 (t ∷ [])) (sym new.2) (record {
+          size = refl;
+          upto = omega arith;
+          reached = All-push (IsReached m os root) [] t (All-nil (IsReached m os root))
+              ([], sym is);
+          apart = λ i j less within same_tuple. absurd (omega arith);
+          roots = λ u e. let same_tuple : t ≡ u = cc in (0, omega arith, same_tuple);
+          first = λ some. sym is;
+          closed = λ k b u less e. absurd (omega arith);
+          parent = λ k some within. absurd (omega arith);
+          linked = λ k some within. absurd (omega arith);
+        }))
   ]
 
   -- the moves of one more tuple were put in
