@@ -64,6 +64,16 @@ part_contains xs from upto x ends (k, less, is) =
       sym (get_or-between xs from upto k x (omega arith)) ∙ is,
     )
 
+-- what all items are below, those of a part are below, too
+pub part_inside : (xs : List ℕ) (from upto n : ℕ) → upto ≤ length xs
+    → ((k : ℕ) → k < length xs → get_or xs k 0 < n)
+    → (k : ℕ) → k < length (slice_range xs from upto) → get_or (slice_range xs from upto) k 0 < n
+part_inside xs from upto n ends all k less =
+    let size = length-between xs from upto ends in
+    let in_part : k < upto - from = omega (arith, less, size) in
+    subst (λ x. x < n) (sym (get_or-between xs from upto k 0 (omega arith)))
+    (all (from + k) (omega arith))
+
 -- one item more is inside, too
 pub push_inside : (xs : List ℕ) (y n : ℕ) → y < n → ((k : ℕ) → k < length xs → get_or xs k 0 < n)
     → (k : ℕ) → k < length (xs ++ y ∷ []) → get_or (xs ++ y ∷ []) k 0 < n
@@ -291,6 +301,19 @@ module _ (clauses : List (List Literal)) (heads : List RowHead) (places : List �
       now : (j : ℕ) (e : Cluster) → j ≡ at → get_or new.clusters.items j e ≡ cluster
       now j e one = ap (λ xs. get_or xs j e) put
           ∙ get_or_push old.clusters.items cluster e j (is.size ∙ sym one)
+
+-- where there are no clusters, none of the heads has one
+pub clusters_none : (clauses : List (List Literal)) (heads : List RowHead) (places : List ℕ)
+    (list : ClusterList) → list.clusters.items ≡ [] → list.screens.items ≡ []
+    → AreClustersUpto clauses heads places 0 list
+clusters_none clauses heads places list none bare = record {
+  size = ap length none;
+  each = λ j e less. absurd (omega (arith, less));
+  parts = λ codes are size j d e less. absurd (omega (arith, less));
+  exact = λ k d less.
+      let size : length list.screens.items ≡ 0 = ap length bare in
+      absurd (omega (arith, less, size));
+}
 
 -- a cluster was put of what is put under the next head
 pub puts_cluster : (clauses : List (List Literal)) (heads : List RowHead) (places : List ℕ)
