@@ -613,7 +613,7 @@ cluster_screened clauses them state are speak at less cluster is k has screen sa
     (subst (λ s. IsScreened s (clause_at clauses c)) (sym same) (named.1 screen c within))
 
 -- a screen that is named is there
-screen_less : (screens : List Screen) (places : List ℕ) (clauses : List (List Literal))
+pub screen_less : (screens : List Screen) (places : List ℕ) (clauses : List (List Literal))
     (cluster : Cluster) (k : ℕ) → cluster.screen ≡ Some k → IsCluster clauses places screens cluster
     → k < length screens
 screen_less screens places clauses cluster k has own =
@@ -621,6 +621,15 @@ screen_less screens places clauses cluster k has own =
     × ((d : Screen) (x : ℕ) → Contains (cluster_places places cluster) x
     → IsScreened (get_or screens j d) (clause_at clauses x)))) has own.screened in
     named.0
+
+-- the cluster that stands at a place is one
+pub cluster_at : (clauses : List (List Literal)) (them : Clusters) → AreClusters clauses them
+    → (at : ℕ) → at < length them.heads.items → (cluster : Cluster)
+    → cluster ≡ get_or them.list.clusters.items at cluster
+    → IsCluster clauses them.places.items them.list.screens.items cluster
+cluster_at clauses them are at less cluster is =
+    subst (λ x. IsCluster clauses them.places.items them.list.screens.items x) (sym is)
+    (are.each at cluster less)
 
 -- where the screen of a cluster decides, it is so
 pub cluster_decided : (clauses : List (List Literal)) (them : Clusters) (state : List Bool)
