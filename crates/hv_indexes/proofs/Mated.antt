@@ -558,6 +558,21 @@ module _ (clauses : List (List Literal)) (mates : Mates) (state : List Bool)
   all_decided false others negative positive =
       tried_false (IsDue true mates.positive state) positive
 
+-- where nothing is put, there are clusters of no clauses
+pub none_are : (them : Clusters) → them.heads.items ≡ [] → them.places.items ≡ []
+    → them.list.clusters.items ≡ [] → them.list.screens.items ≡ [] → AreClusters [] them
+none_are them heads places clusters screens =
+    let few : length them.heads.items ≡ 0 = ap length heads in
+    let none : length them.places.items ≡ 0 = ap length places in
+    let bare : length them.list.screens.items ≡ 0 = ap length screens in
+    record {
+      rises = λ i j d upto less. absurd (omega (arith, less, few));
+      size = ap length clusters ∙ sym (ap length heads);
+      inside = λ k less. absurd (omega (arith, less, none));
+      each = λ j e less. absurd (omega (arith, less, few));
+      exact = λ k d less. absurd (omega (arith, less, bare));
+    }
+
 -- clauses that were put are tried
 pub mates_are : (clauses : List (List Literal)) (put : PutClauses) (mates : Mates)
     → ArePut clauses (length clauses) put → length clauses ≤ 4294967295
