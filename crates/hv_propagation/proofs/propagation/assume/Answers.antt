@@ -125,7 +125,8 @@ returns-then-place-len-clause-left g c =
     let size = c.len.ensures.len in
     let past = c.if-place-len.true in
     let within = c.in-Some.ensures.left.0 in
-    let same : c.in-Some.place ≡ length c.follow.new.marks.trail = omega (arith, size, past, within) in
+    let same : c.in-Some.place ≡ length c.follow.new.marks.trail =
+    omega (arith, size, past, within) in
     subst (λ n. g.C.Constraint.left c.args.constraint.now c.follow.new.marks n) same
     c.in-Some.ensures.left.1
 
