@@ -37,7 +37,7 @@ fn is_begin_action(line: &[u8]) -> bool
     }
 }
 
-// Whether the bytes are the second part of that word.
+// Whether the bytes are the last part of that word, or of the one that ends an action.
 fn is_action(bytes: &[u8]) -> bool
     ensures { IsTrue result ↔ (bytes.now ≡ codes "action") }
 {
@@ -153,7 +153,7 @@ fn is_end_action(line: &[u8]) -> bool
     ensures { IsTrue result ↔ (line.now ≡ codes "end_action") }
 {
     match line {
-        b"end_action" => true,
+        [b'e', b'n', b'd', b'_', rest @ ..] => is_action(rest),
         _ => false,
     }
 }
