@@ -2,11 +2,11 @@ use Rattle.std.proofs.Common.{ℕ, List, ◌+◌, ◌∙◌, arith, ap, subst, s
 use Rattle.hv_task.specs.State.{AreBelow}
 use Rattle.hv_task.specs.Strips.{Strips, atoms}
 use Rattle.hv_bound.proofs.Copying.{AreBelow-push, atoms_made}
-use Rattle.hv_bound.proofs.bound.made_task.Goals as goal
+use Rattle.hv_bound.proofs.bound.add_parts.Goals as goal
 
 pub set_start-requires : goal.set_start-requires
 set_start-requires c =
-    let size = atoms_made c.new-made.result c.add_atoms.new.made c.add_counters.new.made
+    let size = atoms_made c.args.made.now c.add_atoms.new.made c.add_counters.new.made
     c.args.task.now.names c.args.most c.in_ok-add_atoms.ensures c.in_ok-add_counters.ensures in
     let here = c.atoms.ensures.atoms in
     let below : AreBelow (atoms c.args.task.now) c.start.result.now = c.start.ensures.below in
@@ -19,5 +19,5 @@ pub add_copies-requires-clause-atoms : goal.add_copies-requires-clause-atoms
 add_copies-requires-clause-atoms c =
     ap (λ (t : Strips). atoms t) c.set_goal.ensures
     ∙ ap (λ (t : Strips). atoms t) c.set_start.ensures
-    ∙ atoms_made c.new-made.result c.add_atoms.new.made c.add_counters.new.made
+    ∙ atoms_made c.args.made.now c.add_atoms.new.made c.add_counters.new.made
     c.args.task.now.names c.args.most c.in_ok-add_atoms.ensures c.in_ok-add_counters.ensures
