@@ -1,5 +1,6 @@
 pub mod Bounds
 pub mod Copying
+pub mod Faults
 pub mod Few
 pub mod PlanReads
 pub mod Spent

@@ -1,7 +1,7 @@
 -- What reading a plan file gives.
 use Rattle.std.proofs.Common.{◌≡◌, ℕ, List, None, Some, IfSome, Option, Ok, Err, refl, subst}
 use Rattle.std.proofs.Common.{sym}
-use Rattle.std.specs.Prelude.{IfOk, IsErrAnd, Result}
+use Rattle.std.specs.Prelude.{IsErrAnd, Result}
 use Rattle.hv_bytes.specs.Files.{Names, bytes_of}
 use Rattle.hv_bytes.specs.Pieces.{pieces_of}
 use Rattle.hv_grammar.specs.Parsers.{Outcome}
@@ -41,9 +41,3 @@ pub not_found : {T : Type 0} (files : Option Names) (name : List ℕ)
 not_found files name opened e result was out is =
     plan_stopped files name e result
     (not_opened plan_file files name plan_limits e (Err e) out refl) is
-
--- where there is a fault there is no list
-pub no_list : {A E : Type 0} (r : Result A E) (Q : E → Type 0) (P : A → Type 0) → IsErrAnd r Q
-    → IfOk r P
-no_list (Ok a) Q P is = absurd is
-no_list (Err e) Q P is = tt

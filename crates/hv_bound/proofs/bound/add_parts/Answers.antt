@@ -2,6 +2,7 @@ use Rattle.std.proofs.Common.{ℕ, List, ◌+◌, ◌∙◌, arith, ap, subst, s
 use Rattle.hv_task.specs.State.{AreBelow}
 use Rattle.hv_task.specs.Strips.{Strips, atoms}
 use Rattle.hv_bound.proofs.Copying.{AreBelow-push, atoms_made}
+use Rattle.hv_bound.proofs.Faults.{no_value}
 use Rattle.hv_bound.proofs.bound.add_parts.Goals as goal
 
 pub set_start-requires : goal.set_start-requires
@@ -21,3 +22,19 @@ add_copies-requires-clause-atoms c =
     ∙ ap (λ (t : Strips). atoms t) c.set_start.ensures
     ∙ atoms_made c.args.made.now c.add_atoms.new.made c.add_counters.new.made
     c.args.task.now.names c.args.most c.in_ok-add_atoms.ensures c.in_ok-add_counters.ensures
+
+pub returns-in_err-add_atoms : goal.returns-in_err-add_atoms
+returns-in_err-add_atoms c =
+    no_value c.from_residual.result _ _ c.from_residual.ensures.1
+
+pub returns-in_err-add_counters : goal.returns-in_err-add_counters
+returns-in_err-add_counters c =
+    no_value c.from_residual-in_err-add_counters.result _ _ c.from_residual-in_err-add_counters.ensures.1
+
+pub returns-in_err-with_atom : goal.returns-in_err-with_atom
+returns-in_err-with_atom c =
+    no_value c.from_residual-in_err-with_atom.result _ _ c.from_residual-in_err-with_atom.ensures.1
+
+pub returns-in_err-copy : goal.returns-in_err-copy
+returns-in_err-copy c =
+    no_value c.from_residual-in_err-copy.result _ _ c.from_residual-in_err-copy.ensures.1

@@ -2,7 +2,8 @@ use Rattle.std.proofs.Common.{◌∙◌, subst, sym}
 use Rattle.hv_bytes.specs.Files.{Opens}
 use Rattle.hv_grammar.proofs.Whole.{whole_answer}
 use Rattle.hv_bound.specs.PlanFile.{plan_file, plan_limits}
-use Rattle.hv_bound.proofs.PlanReads.{no_list, not_found, plan_stopped}
+use Rattle.hv_bound.proofs.Faults.{no_value}
+use Rattle.hv_bound.proofs.PlanReads.{not_found, plan_stopped}
 use Rattle.hv_bound.proofs.read.read_plan.Goals as goal
 
 pub returns-in_err-lines-clause-read : goal.returns-in_err-lines-clause-read
@@ -12,11 +13,11 @@ returns-in_err-lines-clause-read g c =
 
 pub returns-in_err-lines-clause-few : goal.returns-in_err-lines-clause-few
 returns-in_err-lines-clause-few g c =
-    no_list c.from_residual.result _ _ c.from_residual.ensures.1
+    no_value c.from_residual.result _ _ c.from_residual.ensures.1
 
 pub returns-in_err-steps-clause-few : goal.returns-in_err-steps-clause-few
 returns-in_err-steps-clause-few g c =
-    no_list c.from_residual-in_err-steps.result _ _ c.from_residual-in_err-steps.ensures.1
+    no_value c.from_residual-in_err-steps.result _ _ c.from_residual-in_err-steps.ensures.1
 
 pub returns-in_err-steps-clause-read : goal.returns-in_err-steps-clause-read
 returns-in_err-steps-clause-read g c =
