@@ -4,7 +4,8 @@ use Rattle.std.proofs.Common.{take, drop, refl, sym, ap, ◌∙◌, arith, inr, 
 use Rattle.std.proofs.Common.{length-append, length-take, length-drop, Bool, true, false, eqb, subst}
 use Rattle.std.proofs.lemmas.Bool.{eqb-true}
 use Rattle.std.proofs.lemmas.List.{nil_from_length, take-append-le}
-use Rattle.std.specs.Prelude.{Result, Ok, Err, OnErr}
+use Rattle.std.specs.Prelude.{Result, Ok, Err, IfNone, IfSome, IsErrAnd, IsOk, IsTrue, OnErr}
+use Rattle.std.specs.Prelude.{◌↔◌, OnOk, is_err, is_some}
 use Rattle.std.specs.Io.KnownBytes.{Consumes, IsAtEnd, prepend_known}
 use Rattle.hv_bytes.specs.FirstLine.{MovesBytes, TakesLine}
 use Rattle.hv_bytes.specs.LineCuts.{IsClean}
@@ -107,3 +108,33 @@ end_before (Some xs) (Some ys) front held line p empty none end unread =
 pub at_fault : {A E : Type 0} (r : Result A E) (P : Type 0) → P → OnErr r P
 at_fault (Ok a) P p = tt
 at_fault (Err e) P p = p
+
+-- where there is a value there is no fault
+pub no_fault : {A E : Type 0} (r : Result A E) (P : Type 0) → is_err r ≡ false → OnErr r P
+no_fault (Ok a) P e = tt
+no_fault (Err f) P e = absurd cc
+
+-- where there is a fault there is no value
+pub no_value : {A E : Type 0} (r : Result A E) (Q : E → Type 0) (P : Type 0) → IsErrAnd r Q
+    → OnOk r P
+no_value (Ok a) Q P is = absurd is
+no_value (Err e) Q P is = tt
+
+pub never_ok : {A E : Type 0} (r : Result A E) (Q : E → Type 0) (a : A) (P : Type 0)
+    → IsErrAnd r Q → r ≡ Ok a → P
+never_ok (Ok b) Q a P is same = absurd is
+never_ok (Err e) Q a P is same = absurd cc
+
+pub not_live : {A E : Type 0} (r : Result A E) (Q : E → Type 0) → IsErrAnd r Q
+    → IsTrue false ↔ IsOk r
+not_live (Ok a) Q is = absurd is
+not_live (Err e) Q is = (λ live. live, λ ok. ok)
+
+-- a test of whether there is a count
+pub no_count : {A : Type 0} (o : Option A) (P : A → Type 0) → is_some o ≡ false → IfSome o P
+no_count None P e = tt
+no_count (Some a) P e = absurd cc
+
+pub some_count : {A : Type 0} (o : Option A) (P : Type 0) → is_some o ≡ true → IfNone o P
+some_count None P e = absurd cc
+some_count (Some a) P e = tt
