@@ -4,8 +4,8 @@ use Rattle.std.proofs.Common.{take, drop, refl, sym, ap, ◌∙◌, arith, inr, 
 use Rattle.std.proofs.Common.{length-append, length-take, length-drop, Bool, true, false, eqb, subst}
 use Rattle.std.proofs.lemmas.Bool.{eqb-true}
 use Rattle.std.proofs.lemmas.List.{nil_from_length, take-append-le}
-use Rattle.std.specs.Prelude.{Result, Ok, Err, IfNone, IfSome, IsErrAnd, IsOk, IsTrue, OnErr}
-use Rattle.std.specs.Prelude.{◌↔◌, OnOk, is_err, is_some}
+use Rattle.std.specs.Prelude.{Result, Ok, Err, IfNone, IfOk, IfSome, IsErrAnd, IsOk, IsTrue, OnErr}
+use Rattle.std.specs.Prelude.{◌↔◌, is_err, is_some}
 use Rattle.std.specs.Io.KnownBytes.{Consumes, IsAtEnd, prepend_known}
 use Rattle.hv_bytes.specs.FirstLine.{MovesBytes, TakesLine}
 use Rattle.hv_bytes.specs.LineCuts.{IsClean}
@@ -115,8 +115,8 @@ no_fault (Ok a) P e = tt
 no_fault (Err f) P e = absurd cc
 
 -- where there is a fault there is no value
-pub no_value : {A E : Type 0} (r : Result A E) (Q : E → Type 0) (P : Type 0) → IsErrAnd r Q
-    → OnOk r P
+pub no_value : {A E : Type 0} (r : Result A E) (Q : E → Type 0) (P : A → Type 0) → IsErrAnd r Q
+    → IfOk r P
 no_value (Ok a) Q P is = absurd is
 no_value (Err e) Q P is = tt
 

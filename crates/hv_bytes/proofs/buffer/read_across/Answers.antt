@@ -6,7 +6,7 @@ use Rattle.std.specs.Io.KnownBytes.{IsAtEnd, prepend_known}
 use Rattle.hv_bytes.specs.FirstLine.{BeginsLong, MovesBytes, TakesLine}
 use Rattle.hv_bytes.specs.Working.LineParts.{BeginsWith}
 use Rattle.hv_bytes.proofs.HeldBytes.{long_front}
-use Rattle.hv_bytes.proofs.ReadParts.{no_fault}
+use Rattle.hv_bytes.proofs.ReadParts.{no_fault, no_value}
 use Rattle.hv_bytes.proofs.buffer.read_across.Goals as goal
 
 pub returns-in_err-take_front-clause-long : goal.returns-in_err-take_front-clause-long
@@ -101,3 +101,27 @@ returns-then-is_err-clause-end g c =
 pub returns-else-is_err-clause-same : goal.returns-else-is_err-clause-same
 returns-else-is_err-clause-same g c =
     no_fault _ _ (sym c.is_err.ensures.value ∙ c.if-is_err.false)
+
+pub returns-in_err-take_front-clause-line : goal.returns-in_err-take_front-clause-line
+returns-in_err-take_front-clause-line g c =
+    no_value c.from_residual.result _ _ c.from_residual.ensures.1
+
+pub returns-in_err-take_front-clause-passes : goal.returns-in_err-take_front-clause-passes
+returns-in_err-take_front-clause-passes g c =
+    no_value c.from_residual.result _ _ c.from_residual.ensures.1
+
+pub returns-in_err-take_front-clause-count : goal.returns-in_err-take_front-clause-count
+returns-in_err-take_front-clause-count g c =
+    no_value c.from_residual.result _ _ c.from_residual.ensures.1
+
+pub returns-in_err-take_front-clause-last : goal.returns-in_err-take_front-clause-last
+returns-in_err-take_front-clause-last g c =
+    no_value c.from_residual.result _ _ c.from_residual.ensures.1
+
+pub returns-in_err-take_front-clause-fits : goal.returns-in_err-take_front-clause-fits
+returns-in_err-take_front-clause-fits g c =
+    no_value c.from_residual.result _ _ c.from_residual.ensures.1
+
+pub returns-in_err-take_front-clause-end : goal.returns-in_err-take_front-clause-end
+returns-in_err-take_front-clause-end g c =
+    no_value c.from_residual.result _ _ c.from_residual.ensures.1

@@ -7,7 +7,7 @@ use Rattle.hv_bytes.specs.Working.LineParts.{BeginsWith}
 use Rattle.hv_bytes.proofs.HeldBytes.{consumes_read, long_part, some_held, takes_ended}
 use Rattle.hv_bytes.proofs.LineLaws.{length_some}
 use Rattle.hv_bytes.proofs.ReadParts.{at_fault, begins_grown, consumes_taken, end_before}
-use Rattle.hv_bytes.proofs.ReadParts.{moves_ended, moves_line, no_front, none_by_test}
+use Rattle.hv_bytes.proofs.ReadParts.{moves_ended, moves_line, no_front, no_value, none_by_test}
 use Rattle.hv_bytes.proofs.ReadParts.{some_by_test, takes_last}
 use Rattle.hv_bytes.proofs.buffer.read_on.Goals as goal
 
@@ -118,3 +118,51 @@ parts-preserved g c =
       c.read.ensures.allows ∙ c.parts.invariant.6,
       omega (arith, c.read.ensures.cause.later, c.parts.invariant.7),
     )
+
+pub returns-in_err-read-clause-line : goal.returns-in_err-read-clause-line
+returns-in_err-read-clause-line g c =
+    no_value c.from_residual.result _ _ c.from_residual.ensures.1
+
+pub returns-in_err-read-clause-passes : goal.returns-in_err-read-clause-passes
+returns-in_err-read-clause-passes g c =
+    no_value c.from_residual.result _ _ c.from_residual.ensures.1
+
+pub returns-in_err-read-clause-count : goal.returns-in_err-read-clause-count
+returns-in_err-read-clause-count g c =
+    no_value c.from_residual.result _ _ c.from_residual.ensures.1
+
+pub returns-in_err-read-clause-last : goal.returns-in_err-read-clause-last
+returns-in_err-read-clause-last g c =
+    no_value c.from_residual.result _ _ c.from_residual.ensures.1
+
+pub returns-in_err-read-clause-fits : goal.returns-in_err-read-clause-fits
+returns-in_err-read-clause-fits g c =
+    no_value c.from_residual.result _ _ c.from_residual.ensures.1
+
+pub returns-in_err-read-clause-end : goal.returns-in_err-read-clause-end
+returns-in_err-read-clause-end g c =
+    no_value c.from_residual.result _ _ c.from_residual.ensures.1
+
+pub returns-in_err-take_part-clause-line : goal.returns-in_err-take_part-clause-line
+returns-in_err-take_part-clause-line g c =
+    no_value c.from_residual-in_err-take_part.result _ _ c.from_residual-in_err-take_part.ensures.1
+
+pub returns-in_err-take_part-clause-passes : goal.returns-in_err-take_part-clause-passes
+returns-in_err-take_part-clause-passes g c =
+    no_value c.from_residual-in_err-take_part.result _ _ c.from_residual-in_err-take_part.ensures.1
+
+pub returns-in_err-take_part-clause-count : goal.returns-in_err-take_part-clause-count
+returns-in_err-take_part-clause-count g c =
+    no_value c.from_residual-in_err-take_part.result _ _ c.from_residual-in_err-take_part.ensures.1
+
+pub returns-in_err-take_part-clause-last : goal.returns-in_err-take_part-clause-last
+returns-in_err-take_part-clause-last g c =
+    no_value c.from_residual-in_err-take_part.result _ _ c.from_residual-in_err-take_part.ensures.1
+
+pub returns-in_err-take_part-clause-fits : goal.returns-in_err-take_part-clause-fits
+returns-in_err-take_part-clause-fits g c =
+    no_value c.from_residual-in_err-take_part.result _ _ c.from_residual-in_err-take_part.ensures.1
+
+pub returns-in_err-take_part-clause-end : goal.returns-in_err-take_part-clause-end
+returns-in_err-take_part-clause-end g c =
+    no_value c.from_residual-in_err-take_part.result _ _ c.from_residual-in_err-take_part.ensures.1
