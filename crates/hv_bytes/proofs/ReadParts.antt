@@ -1,6 +1,6 @@
 -- A line that is read part by part, and the bytes that were coming.
 use Rattle.std.proofs.Common.{◌≡◌, ◌≢◌, ℕ, ◌+◌, ◌≤◌, List, [], ◌++◌, Option, None, Some, length}
-use Rattle.std.proofs.Common.{take, drop, refl, sym, ap, ◌∙◌, arith, inr, append_assoc, append-nil}
+use Rattle.std.proofs.Common.{take, sym, ap, ◌∙◌, arith, inr, append_assoc, append-nil}
 use Rattle.std.proofs.Common.{length-append, length-take, length-drop, Bool, true, false, eqb, subst}
 use Rattle.std.proofs.lemmas.Bool.{eqb-true}
 use Rattle.std.proofs.lemmas.List.{nil_from_length, take-append-le}
@@ -9,7 +9,7 @@ use Rattle.std.specs.Prelude.{◌↔◌, is_err, is_some}
 use Rattle.std.specs.Io.KnownBytes.{Consumes, IsAtEnd, prepend_known}
 use Rattle.hv_bytes.specs.FirstLine.{MovesBytes, TakesLine}
 use Rattle.hv_bytes.specs.LineCuts.{IsClean}
-use Rattle.hv_bytes.specs.Working.LineParts.{BeginsWith, EndsLine, LengthensLine}
+use Rattle.hv_bytes.specs.Working.LineParts.{BeginsWith, EndsLine}
 
 -- what a test of a count of bytes says
 pub none_by_test : (n : ℕ) (test : Bool) → test ≡ eqb n 0 → test ≡ true → n ≡ 0
