@@ -2,7 +2,7 @@ use Rattle.std.proofs.Common.{◌≡◌, ◌<◌, ℕ, length}
 use Rattle.hv_task.specs.Strips.{IsState}
 use Rattle.hv_replay.specs.Closed.{LeadsOn}
 use Rattle.hv_replay.specs.Working.Following.{LeadAllOn}
-use Rattle.hv_replay.proofs.open.first_open.Given as goal
+use Rattle.hv_replay.proofs.open.first_open_by.Given as goal
 
 abbrev pub invariant-loop-place : goal.invariant-loop-place
 invariant-loop-place l = record {
