@@ -10,6 +10,7 @@ use Rattle.hv_bdd.specs.Nodes.{NodeList, in_node}
 use Rattle.hv_clauses.specs.Inquiry.{InquiryState, asked_with}
 use Rattle.hv_clauses.specs.Store.{formula_at, sizes_of, tests_of}
 use Rattle.hv_formula.specs.Clausal.{FormulaState}
+use Rattle.hv_basic.specs.Working.Asked.{with_action}
 
 module _ (query : Query) (budget : ℕ) (found : Finding) (state : List Bool) where
   -- the answer about a list and a task
@@ -24,7 +25,7 @@ module _ (query : Query) (budget : ℕ) (found : Finding) (state : List Bool) wh
       subst (λ (i : NodeTask). IsNodeAnswer i.list i.task) same answer
 
 -- what an inquiry about this asks about
-abbrev pub inquiry_about : Strips → List FormulaState → Query → ℕ → InquiryState
+abbrev inquiry_about : Strips → List FormulaState → Query → ℕ → InquiryState
 inquiry_about task store query budget = record {
   task = task;
   store = store;
@@ -32,20 +33,6 @@ inquiry_about task store query budget = record {
   negative = query.negative;
   budget = budget;
 }
-
--- an inquiry is known by what it asks about
-pub inquiry_is : (i : InquiryState) (task : Strips) (store : List FormulaState) (query : Query)
-    (budget : ℕ) → i.task ≡ task → i.store ≡ store
-    → i.positive ≡ query.positive → i.negative ≡ query.negative → i.budget ≡ budget
-    → i ≡ inquiry_about task store query budget
-inquiry_is i task store query budget is_task is_store is_positive is_negative is_budget =
-    λ j. record {
-      task = is_task j;
-      store = is_store j;
-      positive = is_positive j;
-      negative = is_negative j;
-      budget = is_budget j;
-    }
 
 module _ (action : Option ℕ) (found : Finding) (state : List Bool) where
   -- the answer of an inquiry over formulas in clauses
@@ -56,7 +43,21 @@ module _ (action : Option ℕ) (found : Finding) (state : List Bool) where
       (is_clash i.task (tests_of (formula_at i.store)) (asked_with i.positive i.negative action))
       state
 
-  -- an inquiry about the same answers about it
-  pub clause_answer_here : (inquiry old : InquiryState) → inquiry ≡ old
-      → IsClauseAnswer inquiry → IsClauseAnswer old
-  clause_answer_here inquiry old same answer = subst IsClauseAnswer same answer
+  -- an inquiry about this task, store and query answers about them
+  pub clause_answer_here : (i : InquiryState) (task : Strips) (store : List FormulaState)
+      (query : Query) (budget : ℕ) → i.task ≡ task → i.store ≡ store
+      → i.positive ≡ query.positive → i.negative ≡ query.negative → i.budget ≡ budget
+      → IsClauseAnswer i
+      → IsAnswer found (ClausesPass task (sizes_of (formula_at store)) (with_action query action)
+      budget) (atoms task)
+      (is_clash task (tests_of (formula_at store)) (with_action query action)) state
+  clause_answer_here i task store query budget is_task is_store is_positive is_negative is_budget
+      answer =
+      let same : i ≡ inquiry_about task store query budget = λ j. record {
+        task = is_task j;
+        store = is_store j;
+        positive = is_positive j;
+        negative = is_negative j;
+        budget = is_budget j;
+      } in
+      subst IsClauseAnswer same answer

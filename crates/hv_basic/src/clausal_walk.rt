@@ -1,10 +1,9 @@
 //! The queries of a statement over formulas in clauses, one after the other.
 
 ghost use Rattle.std.specs.Prelude.{◌≡◌, ◌<◌, ◌≤◌, ◌++◌, ℕ, Option, IfOk, IfSome, length, map};
-ghost use Rattle.std.specs.Prelude.{slice_get, None, Some};
+ghost use Rattle.std.specs.Prelude.{slice_get, Some};
 ghost use Rattle.std.specs.List.{All};
 ghost use Rattle.hv_task.specs.Strips.{atoms};
-ghost use Rattle.hv_clauses.specs.Inquiry.{asked_with};
 ghost use Rattle.hv_clauses.specs.Store.{AreOver, formula_at, sizes_of, tests_of};
 ghost use Rattle.hv_sets.specs.Cost.{ClausesPass};
 ghost use Rattle.hv_sets.specs.Query.{IsNamed, is_clash};
@@ -15,7 +14,7 @@ ghost use Rattle.hv_basic.specs.Working.Deciding.{AreAllReady};
 
 use crate::case::Case;
 use crate::query_walk::clash_at;
-use hv_clauses::{ClauseInquiry, Formulas};
+use hv_clauses::Formulas;
 use hv_formula::ClauseKind;
 use hv_lines::Verdict;
 use hv_sets::{Finding, Query, Scratch};
@@ -54,7 +53,8 @@ pub(crate) fn walk_clauses<K: ClauseKind>(
     )
 }
 
-/// The same, in space for each atom.
+/// The same, in space for each atom: the first answer that the cost exceeds the budget or that
+/// there is a counterexample decides.
 fn ask_all<K: ClauseKind>(
     alloc: Global,
     case: &Case<'_>,
@@ -86,29 +86,6 @@ fn ask_all<K: ClauseKind>(
     let task = case.task;
     let budget = case.budget;
     let mut inquiry = sets.inquire(Some(alloc), task, query, budget, places, queue, watches);
-    ask_each(alloc, &mut inquiry, actions, state)
-}
-
-/// The same by this inquiry: the first answer that the cost exceeds the budget or that there is a
-/// counterexample decides.
-fn ask_each<K: ClauseKind>(
-    alloc: Global,
-    inquiry: &mut ClauseInquiry<'_, K>,
-    actions: &[Option<u32>],
-    state: &mut State,
-) -> Result<Verdict, AllocError>
-    requires below { (place : ℕ) (action : Option ℕ) → slice_get actions.now place ≡ Some action
-        → IfSome action (λ a. a < length inquiry.old.task.actions) }
-    requires state { length state.old ≡ atoms inquiry.old.task }
-    ensures answer { IfOk result (IsDecided
-        (λ q. ClausesPass inquiry.old.task (sizes_of (formula_at inquiry.old.store)) q
-        inquiry.old.budget)
-        (is_clash inquiry.old.task (tests_of (formula_at inquiry.old.store)))
-        (atoms inquiry.old.task)
-        (map (with_action (asked_with inquiry.old.positive inquiry.old.negative None))
-        actions.now)) }
-    ensures state { length state.new ≡ length state.old }
-{
     for action in actions {
         match inquiry.ask(*action, state) {
             Finding::Empty => {}

@@ -230,12 +230,9 @@ fn find_within<K: ClauseKind>(
     if right.outside_count(alloc, budget)? > budget {
         return Ok(Finding::Over);
     }
-    let met = {
-        let mut walk = OutsideWalk::new(alloc, right);
-        let mut asked = InsideAsk::new(alloc, left);
-        meet_along(alloc, &mut walk, &mut asked, scratch)
-    };
-    if met? {
+    let mut walk = OutsideWalk::new(alloc, right);
+    let mut asked = InsideAsk::new(alloc, left);
+    if meet_along(alloc, &mut walk, &mut asked, scratch)? {
         Ok(Finding::Clash)
     } else {
         Ok(Finding::Empty)

@@ -195,29 +195,12 @@ fn within_rest<'a, R: OutsideWalked<'a>>(
     ensures lengths { KeepsLengths scratch.old scratch.new }
 {
     match left {
-        AnyFormula::Horn(set) => clauses_within(alloc, *set, right, budget, scratch),
-        AnyFormula::Dual(set) => clauses_within(alloc, *set, right, budget, scratch),
-        AnyFormula::Two(set) => clauses_within(alloc, *set, right, budget, scratch),
+        AnyFormula::Horn(set) => within(alloc, *set, right, budget, scratch),
+        AnyFormula::Dual(set) => within(alloc, *set, right, budget, scratch),
+        AnyFormula::Two(set) => within(alloc, *set, right, budget, scratch),
         AnyFormula::States(set) => within(alloc, *set, right, budget, scratch),
         AnyFormula::Node(set) => within(alloc, set, right, budget, scratch),
     }
-}
-
-/// The same for a left formula in clauses.
-fn clauses_within<'a, K: ClauseKind + 'a, R: OutsideWalked<'a>>(
-    alloc: Global,
-    left: &'a Formula<K>,
-    right: &'a R,
-    budget: u64,
-    scratch: &mut Scratch,
-) -> Result<Finding, AllocError>
-    requires budget { budget ≤ most_budget }
-    requires atoms { left.now.atoms ≡ R.atoms right.now }
-    ensures answer { IfOk result (λ found. IsAnswer found (budget < length (R.outside right.now))
-        left.now.atoms (difference (in_formula left.now) (R.has right.now)) scratch.new.state) }
-    ensures lengths { KeepsLengths scratch.old scratch.new }
-{
-    within(alloc, left, right, budget, scratch)
 }
 
 /// Whether no state is in both formulas.
@@ -301,30 +284,12 @@ fn apart_walk<'a, L: InsideWalked<'a>>(
     ensures lengths { KeepsLengths scratch.old scratch.new }
 {
     match right {
-        AnyFormula::Horn(set) => apart_from_clauses(alloc, left, *set, budget, scratch),
-        AnyFormula::Dual(set) => apart_from_clauses(alloc, left, *set, budget, scratch),
-        AnyFormula::Two(set) => apart_from_clauses(alloc, left, *set, budget, scratch),
+        AnyFormula::Horn(set) => apart(alloc, left, *set, budget, scratch),
+        AnyFormula::Dual(set) => apart(alloc, left, *set, budget, scratch),
+        AnyFormula::Two(set) => apart(alloc, left, *set, budget, scratch),
         AnyFormula::States(set) => apart(alloc, left, *set, budget, scratch),
         AnyFormula::Node(set) => apart(alloc, left, set, budget, scratch),
     }
-}
-
-/// The same for a right formula in clauses.
-fn apart_from_clauses<'a, L: InsideWalked<'a>, K: ClauseKind + 'a>(
-    alloc: Global,
-    left: &'a L,
-    right: &'a Formula<K>,
-    budget: u64,
-    scratch: &mut Scratch,
-) -> Result<Finding, AllocError>
-    requires budget { budget ≤ most_budget }
-    requires atoms { L.atoms left.now ≡ right.now.atoms }
-    ensures answer { IfOk result (λ found. IsAnswer found (budget < length (L.inside left.now))
-        (L.atoms left.now) (difference (L.has left.now) (complement (in_formula right.now)))
-        scratch.new.state) }
-    ensures lengths { KeepsLengths scratch.old scratch.new }
-{
-    apart(alloc, left, right, budget, scratch)
 }
 
 /// Whether each state is in one of the formulas.

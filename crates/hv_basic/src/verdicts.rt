@@ -114,30 +114,14 @@ pub(crate) fn decide_whole(
     if is_alone_within(case, question) {
         return Ok(Verdict::True);
     }
+    let negative = operands_of(alloc, case, &question.negative)?;
     let mut query = Query {
         positive: Operands::new(alloc),
-        negative: Operands::new(alloc),
+        negative,
         action: None,
     };
-    decide_anew(alloc, case, question, &mut query, scratch)
-}
-
-/// The verdict on a question, by a query of which nothing is there.
-fn decide_anew(
-    alloc: Global,
-    case: &Case<'_>,
-    question: &Question,
-    query: &mut Query,
-    scratch: &mut Scratch,
-) -> Result<Verdict, AllocError>
-    requires table { IsTable (lines_in case.now) }
-    requires question { IsQuestionOver (lines_in case.now) (question_of question.now) }
-    ensures answer { IfOk result (IsVerdictOfSets (setting_in case.now) (lines_in case.now)
-        (question_of question.now)) }
-    ensures lengths { KeepsLengths scratch.old scratch.new }
-{
-    query.negative = operands_of(alloc, case, &question.negative)?;
-    decide_sets(alloc, case, question, query, scratch)
+    let verdict = decide_sets(alloc, case, question, &mut query, scratch)?;
+    Ok(verdict)
 }
 
 /// The verdict on a question, of whose query the negative half is there.
@@ -159,7 +143,8 @@ pub(crate) fn decide_sets(
 {
     query.positive = operands_of(alloc, case, &question.positive)?;
     let actions = actions_to_ask(alloc, case, question, query)?;
-    decide_queries(alloc, case, question, query, &actions, scratch)
+    let verdict = decide_queries(alloc, case, question, query, &actions, scratch)?;
+    Ok(verdict)
 }
 
 /// The verdict on a question, by the query that asks it, for these actions, which are enough.

@@ -23,7 +23,8 @@ pub returns-in_ok-together-in-Dual-clause-answer :
 returns-in_ok-together-in-Dual-clause-answer g c =
     subst (λ f. IsFoundInclusion c.args.budget (cubes_to_cover f) (formula_atoms f)
     (difference (is_to_cover f) (g.R.StateSet.has c.args.right.now))
-    (Some c.in_ok-together-in-Dual.field-0) c.together-in-Dual.new.scratch.state) (sym c.in-Dual.is) (
+    (Some c.in_ok-together-in-Dual.field-0) c.together-in-Dual.new.scratch.state)
+    (sym c.in-Dual.is) (
       length (steps_of c.in-Dual.set.now),
       ap Some (sym (length-map c.in-Dual.set.now.clauses denial_step)),
       c.in_ok-together-in-Dual.ensures.answer,
@@ -45,7 +46,8 @@ pub returns-in_ok-within_states-in-States-clause-answer :
 returns-in_ok-within_states-in-States-clause-answer g c =
     subst (λ f. IsFoundInclusion c.args.budget (cubes_to_cover f) (formula_atoms f)
     (difference (is_to_cover f) (g.R.StateSet.has c.args.right.now))
-    (Some c.in_ok-within_states-in-States.field-0) c.within_states.new.scratch.state) (sym c.in-States.is) (
+    (Some c.in_ok-within_states-in-States.field-0) c.within_states.new.scratch.state)
+    (sym c.in-States.is) (
       length (full_cubes c.in-States.set.now),
       ap Some (sym (length-map c.in-States.set.now.states
           (λ held. full_cube c.in-States.set.now.atoms held))),

@@ -1,4 +1,4 @@
-use Rattle.std.proofs.Common.{◌≡◌, ◌∙◌, ◌<◌, ℕ, Option, Some, None, IfSome, ap, get_or, length, map}
+use Rattle.std.proofs.Common.{◌∙◌, ◌<◌, ℕ, Option, Some, None, IfSome, ap, get_or, length, map}
 use Rattle.std.proofs.Common.{refl, subst, sym}
 use Rattle.std.proofs.lemmas.Option.{slice_get-get_or}
 use Rattle.hv_task.specs.Strips.{atoms}
