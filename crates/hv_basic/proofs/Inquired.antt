@@ -18,13 +18,11 @@ module _ (query : Query) (budget : ℕ) (found : Finding) (state : List Bool) wh
   IsNodeAnswer list task = IsAnswer found (LivePass list task query budget) (atoms task)
       (is_clash task (in_node list) query) state
 
-  -- an inquiry about this list and this task answers about them
-  pub answer_here : (inquiry : NodeTask) (list : NodeList) (task : Strips) → inquiry.list ≡ list
-      → inquiry.task ≡ task
-      → IsNodeAnswer inquiry.list inquiry.task → IsNodeAnswer list task
-  answer_here inquiry list task is_list is_task answer =
-      subst (λ (l : NodeList). IsNodeAnswer l task) is_list
-      (subst (IsNodeAnswer inquiry.list) is_task answer)
+  -- an inquiry about the same answers about it
+  pub answer_here : (inquiry old : NodeTask) → inquiry ≡ old
+      → IsNodeAnswer inquiry.list inquiry.task → IsNodeAnswer old.list old.task
+  answer_here inquiry old same answer =
+      subst (λ (i : NodeTask). IsNodeAnswer i.list i.task) same answer
 
 -- what an inquiry about this asks about
 abbrev inquiry_about : Strips → List FormulaState → Query → ℕ → InquiryState

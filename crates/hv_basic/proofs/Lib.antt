@@ -18,6 +18,7 @@ pub mod Enough
 pub mod Crossing
 pub mod Flagged
 pub mod Mixing
+pub mod Covering
 pub mod Turning
 pub mod Sharing
 pub mod Joints

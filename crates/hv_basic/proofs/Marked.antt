@@ -1,7 +1,8 @@
 -- Going through the action sets that an action set is made of, from the newest to the oldest.
 use Rattle.std.proofs.Common.{◌≡◌, ℕ, ◌+◌, ◌<◌, ◌≤◌, ◌∙◌, ◌⊎◌, ◌↔◌, ◌||◌, Bool, true, false, List}
-use Rattle.std.proofs.Common.{length, get_or, set, eqb, refl, sym, ap, subst, inl, inr, arith, Some}
-use Rattle.std.proofs.lemmas.Bool.{cases_lt, or_cases}
+use Rattle.std.proofs.Common.{length, get_or, replicate, set, eqb, refl, sym, ap, subst, inl, inr}
+use Rattle.std.proofs.Common.{arith, Some}
+use Rattle.std.proofs.lemmas.Bool.{cases_lt, false≢true, or_cases}
 use Rattle.std.proofs.lemmas.List.{get_or_default, get_or-set_same, get_or-set_other}
 use Rattle.std.proofs.lemmas.List.{get_or-replicate, length-set, length-replicate}
 use Rattle.std.specs.List.{list_any}
@@ -11,7 +12,7 @@ use Rattle.hv_lines.specs.declared.line.Acts.{Acts}
 use Rattle.hv_lines.specs.declared.line.Acts.TheVariants as A
 use Rattle.hv_lines.specs.declared.line.Line.{Line}
 use Rattle.hv_lines.proofs.Laws.{acts_law, acts_refer}
-use Rattle.hv_basic.specs.Working.Flags.{Marks, flag_or_false}
+use Rattle.hv_basic.specs.Working.Flags.{AreFlagsOf, Marks, flag_or_false}
 
 -- an action set below this identifier is wanted and has the action
 abbrev pub IsWanted : List Line → List Bool → ℕ → ℕ → Type 0
@@ -227,6 +228,57 @@ marking_step lines root actions flags wanted new_flags new_wanted bound left tab
           (acts_refer lines left acts table says)
           (ap (λ f. f number) (acts_law lines left acts table says)) marks;
     }
+
+-- the first step: the root is wanted, and no flag is set
+pub marking_start : (lines : List Line) (root actions : ℕ) (flags wanted : List Bool)
+    → flags ≡ replicate actions false → wanted ≡ replicate (root + 1) false
+    → IsMarking lines root actions flags (set wanted root true) (root + 1)
+marking_start lines root actions flags wanted no_flags none_wanted =
+    let count : length wanted ≡ root + 1 =
+    ap length none_wanted ∙ length-replicate (root + 1) false in record {
+      within = omega arith;
+      wanted_for = length-set wanted root true ∙ count;
+      each = ap length no_flags ∙ length-replicate actions false;
+      covers = λ number below. (
+        λ has. inr (
+          root,
+          omega arith,
+          get_or-set_same wanted root true false (omega (arith, count)),
+          has,
+        ),
+        λ e. elim e [
+          | inl flag ↦ absurd (false≢true (sym (ap (λ xs. flag_or_false xs number) no_flags
+              ∙ get_or-replicate actions number false false below) ∙ flag))
+          | inr w ↦
+              elim (set_was wanted root w.0 w.2) [
+                | inl same ↦ subst (λ id. acts_of lines id number ≡ true) same w.3
+                | inr was ↦ absurd (false≢true (sym (ap (λ xs. flag_or_false xs w.0) none_wanted
+                    ∙ get_or-replicate (root + 1) w.0 false false w.1) ∙ was))
+              ]
+        ],
+      );
+    }
+
+same_truth : (a b : Bool) → (a ≡ true → b ≡ true) → (b ≡ true → a ≡ true) → a ≡ b
+same_truth true true there back = refl
+same_truth true false there back = sym (there refl)
+same_truth false true there back = back refl
+same_truth false false there back = refl
+
+-- the last step: no action set is wanted any more
+pub marking_end : (lines : List Line) (root actions : ℕ) (flags wanted : List Bool) (left : ℕ)
+    → left ≤ 0 → IsMarking lines root actions flags wanted left
+    → AreFlagsOf lines root actions flags
+marking_end lines root actions flags wanted left none m = record {
+  each = m.each;
+  true_for = λ number below.
+      same_truth (flag_or_false flags number) (acts_of lines root number)
+      (λ flag. (m.covers number below).1 (inl flag))
+      (λ has. elim ((m.covers number below).0 has) [
+        | inl flag ↦ flag
+        | inr w ↦ absurd (omega (arith, none, w.1))
+      ]);
+}
 
 -- a flag that was read as set is set
 pub flag_from_index : (xs : List Bool) (i : ℕ) (d : Bool) → get_or xs i d ≡ true → i < length xs

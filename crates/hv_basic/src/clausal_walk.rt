@@ -13,10 +13,10 @@ ghost use Rattle.hv_basic.specs.Working.Asked.{with_action};
 ghost use Rattle.hv_basic.specs.Working.Deciding.{AreAllReady};
 
 use crate::case::Case;
-use crate::query_walk::copy_of;
+use crate::query_walk::clash_at;
 use hv_clauses::Formulas;
 use hv_formula::ClauseKind;
-use hv_lines::{Clash, Verdict};
+use hv_lines::Verdict;
 use hv_sets::{Finding, Query, Scratch};
 use hv_task::State;
 use std::alloc::{AllocError, Global};
@@ -91,11 +91,8 @@ fn ask_all<K: ClauseKind>(
             Finding::Empty => {}
             Finding::Over => return Ok(Verdict::Over),
             Finding::Clash => {
-                let found = copy_of(alloc, state)?;
-                return Ok(Verdict::False(Clash {
-                    action: *action,
-                    state: Some(found),
-                }));
+                let verdict = clash_at(alloc, *action, state)?;
+                return Ok(verdict);
             }
         }
     }

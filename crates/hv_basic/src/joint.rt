@@ -19,12 +19,12 @@ ghost use Rattle.hv_basic.specs.Working.Sharing.{IsVerdictOfSub};
 
 use crate::any_formula::number_of;
 use crate::case::Case;
-use crate::query_walk::copy_of;
+use crate::query_walk::clash_at;
 use crate::sides::Inclusion;
 use hv_clauses::Formulas;
 use hv_formula::{ClauseKind, Formula};
 use hv_horn::{DualHorn, Horn};
-use hv_lines::{Clash, Expr, FormulaFamily, Verdict};
+use hv_lines::{Expr, FormulaFamily, Verdict};
 use hv_paths::{InsideAsk, OutsideWalk, meet_along};
 use hv_sets::{Clauses, Finding, Outside, Scratch};
 use hv_twocnf::LeanTwoCnf;
@@ -204,11 +204,8 @@ fn verdict_within<K: ClauseKind>(
         Finding::Over => Ok(Some(Verdict::Over)),
         Finding::Empty => Ok(Some(Verdict::True)),
         Finding::Clash => {
-            let state = copy_of(alloc, scratch.state())?;
-            Ok(Some(Verdict::False(Clash {
-                action: None,
-                state: Some(state),
-            })))
+            let verdict = clash_at(alloc, None, scratch.state())?;
+            Ok(Some(verdict))
         }
     }
 }

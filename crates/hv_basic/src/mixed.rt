@@ -1,10 +1,10 @@
 //! Inclusions between formulas of two families, each plain or negated.
 
-ghost use Rattle.std.specs.Prelude.{◌≡◌, ◌<◌, ◌≤◌, true, false, None, Some, IfOk, length};
+ghost use Rattle.std.specs.Prelude.{◌≡◌, ◌<◌, ◌≤◌, true, false, None, IfOk, length};
 ghost use Rattle.hv_task.specs.Strips.{atoms};
 ghost use Rattle.hv_sets.specs.Cost.{IsAnswer};
 ghost use Rattle.hv_sets.specs.Room.{KeepsLengths};
-ghost use Rattle.hv_explicit.specs.ListedStates.{full_cubes, in_listing};
+ghost use Rattle.hv_formula.specs.Clausal.{in_formula};
 ghost use Rattle.hv_mixed.specs.Inclusion.{complement, difference};
 ghost use Rattle.hv_lines.specs.Mixed.{clause_count, cost_of, count_unless, is_between};
 ghost use Rattle.hv_lines.specs.Mixed.{listed_count};
@@ -12,19 +12,20 @@ ghost use Rattle.hv_lines.specs.Setting.{most_budget};
 ghost use Rattle.hv_lines.specs.Shapes.{AreOfTwoFamilies};
 ghost use Rattle.hv_lines.specs.Verdicts.{IsVerdictOfSides, IsVerdictOfTwo};
 ghost use Rattle.hv_basic.specs.Working.Formulas.{AreApart, IsFormulaOn, IsFoundInclusion};
-ghost use Rattle.hv_basic.specs.Working.Formulas.{apart_cost, expr_of, formula_atoms, formula_has};
-ghost use Rattle.hv_basic.specs.Working.Formulas.{inside_count, outside_count, together_cost};
+ghost use Rattle.hv_basic.specs.Working.Formulas.{apart_cost, cubes_to_cover, expr_of};
+ghost use Rattle.hv_basic.specs.Working.Formulas.{formula_atoms, formula_has, inside_count};
+ghost use Rattle.hv_basic.specs.Working.Formulas.{is_to_cover, outside_count, together_cost};
 ghost use Rattle.hv_basic.specs.Working.Formulas.{within_cost};
 ghost use Rattle.hv_basic.specs.Cases.{lines_in, setting_in};
 
 use crate::any_formula::{AnyFormula, formula_of};
 use crate::case::Case;
-use crate::query_walk::copy_of;
+use crate::query_walk::clash_at;
 use crate::signed_sets::SignedSet;
-use hv_explicit::Explicit;
-use hv_lines::{Clash, Verdict};
+use hv_formula::{ClauseKind, Formula};
+use hv_lines::Verdict;
 use hv_mixed::{apart, together, within, within_states};
-use hv_paths::{InsideWalked, OutsideWalked};
+use hv_paths::{InsideWalked, OutsideAsked, OutsideWalked};
 use hv_sets::{Finding, Scratch};
 use std::alloc::{AllocError, Global};
 
@@ -81,11 +82,8 @@ fn decide_sides(
         Some(Finding::Over) => Ok(Verdict::Over),
         Some(Finding::Empty) => Ok(Verdict::True),
         Some(Finding::Clash) => {
-            let state = copy_of(alloc, scratch.state())?;
-            Ok(Verdict::False(Clash {
-                action: None,
-                state: Some(state),
-            }))
+            let verdict = clash_at(alloc, None, scratch.state())?;
+            Ok(verdict)
         }
     }
 }
@@ -146,39 +144,14 @@ fn find_within(
     ensures lengths { KeepsLengths scratch.old scratch.new }
 {
     match left {
-        AnyFormula::States(set) => {
-            let found = within_by_states(alloc, *set, right, budget, scratch)?;
-            Ok(Some(found))
+        AnyFormula::States(_) => {
+            let found = cover(alloc, left, right, budget, scratch)?;
+            Ok(found)
         }
         AnyFormula::Horn(_) | AnyFormula::Dual(_) | AnyFormula::Two(_) | AnyFormula::Node(_) => {
             let found = within_by_rest(alloc, left, right, budget, scratch)?;
             Ok(found)
         }
-    }
-}
-
-/// The same by the listed states of the left set.
-fn within_by_states(
-    alloc: Global,
-    left: &Explicit,
-    right: &AnyFormula<'_>,
-    budget: u64,
-    scratch: &mut Scratch,
-) -> Result<Finding, AllocError>
-    requires budget { budget ≤ most_budget }
-    requires atoms { left.now.atoms ≡ formula_atoms right.now }
-    requires families { listed_count (expr_of right.now) ≡ None }
-    ensures answer { IfOk result (λ found. IsAnswer found (budget < length (full_cubes left.now))
-        left.now.atoms (difference (in_listing left.now) (formula_has right.now))
-        scratch.new.state) }
-    ensures lengths { KeepsLengths scratch.old scratch.new }
-{
-    match right {
-        AnyFormula::Horn(set) => within_states(alloc, left, *set, budget, scratch),
-        AnyFormula::Dual(set) => within_states(alloc, left, *set, budget, scratch),
-        AnyFormula::Two(set) => within_states(alloc, left, *set, budget, scratch),
-        AnyFormula::Node(set) => within_states(alloc, left, set, budget, scratch),
-        AnyFormula::States(_) => unreachable!(),
     }
 }
 
@@ -337,16 +310,8 @@ fn find_together(
     ensures lengths { KeepsLengths scratch.old scratch.new }
 {
     match left {
-        AnyFormula::Horn(set) => {
-            let found = together_by_left(alloc, *set, right, budget, scratch)?;
-            Ok(found)
-        }
-        AnyFormula::Dual(set) => {
-            let found = together_by_left(alloc, *set, right, budget, scratch)?;
-            Ok(found)
-        }
-        AnyFormula::Two(set) => {
-            let found = together_by_left(alloc, *set, right, budget, scratch)?;
+        AnyFormula::Horn(_) | AnyFormula::Dual(_) | AnyFormula::Two(_) => {
+            let found = cover(alloc, left, right, budget, scratch)?;
             Ok(found)
         }
         AnyFormula::States(_) | AnyFormula::Node(_) => {
@@ -375,43 +340,78 @@ fn together_by_right(
     ensures lengths { KeepsLengths scratch.old scratch.new }
 {
     match right {
-        AnyFormula::Horn(set) => {
-            let found = together_by_left(alloc, *set, left, budget, scratch)?;
-            Ok(found)
-        }
-        AnyFormula::Dual(set) => {
-            let found = together_by_left(alloc, *set, left, budget, scratch)?;
-            Ok(found)
-        }
-        AnyFormula::Two(set) => {
-            let found = together_by_left(alloc, *set, left, budget, scratch)?;
+        AnyFormula::Horn(_) | AnyFormula::Dual(_) | AnyFormula::Two(_) => {
+            let found = cover(alloc, right, left, budget, scratch)?;
             Ok(found)
         }
         AnyFormula::States(_) | AnyFormula::Node(_) => Ok(None),
     }
 }
 
-/// The same by the states outside the left set.
-fn together_by_left<'a, L: OutsideWalked<'a>>(
+/// Whether what is to be covered of the left formula is in the right one: its states where they are
+/// listed, and the states outside of it where it is in clauses.
+fn cover(
     alloc: Global,
-    left: &'a L,
-    right: &'a AnyFormula<'_>,
+    left: &AnyFormula<'_>,
+    right: &AnyFormula<'_>,
     budget: u64,
     scratch: &mut Scratch,
 ) -> Result<Option<Finding>, AllocError>
     requires budget { budget ≤ most_budget }
-    requires atoms { L.atoms left.now ≡ formula_atoms right.now }
+    requires atoms { formula_atoms left.now ≡ formula_atoms right.now }
     ensures answer { IfOk result (λ found. IsFoundInclusion budget
-        (count_unless (listed_count (expr_of right.now)) (Some (length (L.outside left.now))))
-        (L.atoms left.now) (difference (complement (L.has left.now)) (formula_has right.now))
+        (count_unless (listed_count (expr_of right.now)) (cubes_to_cover left.now))
+        (formula_atoms left.now) (difference (is_to_cover left.now) (formula_has right.now))
         found scratch.new.state) }
     ensures lengths { KeepsLengths scratch.old scratch.new }
 {
     match right {
-        AnyFormula::Horn(set) => Ok(Some(together(alloc, left, *set, budget, scratch)?)),
-        AnyFormula::Dual(set) => Ok(Some(together(alloc, left, *set, budget, scratch)?)),
-        AnyFormula::Two(set) => Ok(Some(together(alloc, left, *set, budget, scratch)?)),
-        AnyFormula::Node(set) => Ok(Some(together(alloc, left, set, budget, scratch)?)),
+        AnyFormula::Horn(set) => cover_by_clauses(alloc, left, *set, budget, scratch),
+        AnyFormula::Dual(set) => cover_by_clauses(alloc, left, *set, budget, scratch),
+        AnyFormula::Two(set) => cover_by_clauses(alloc, left, *set, budget, scratch),
+        AnyFormula::Node(set) => cover_by(alloc, left, set, budget, scratch),
         AnyFormula::States(_) => Ok(None),
+    }
+}
+
+/// The same for a right formula in clauses.
+fn cover_by_clauses<'a, K: ClauseKind + 'a>(
+    alloc: Global,
+    left: &'a AnyFormula<'_>,
+    right: &'a Formula<K>,
+    budget: u64,
+    scratch: &mut Scratch,
+) -> Result<Option<Finding>, AllocError>
+    requires budget { budget ≤ most_budget }
+    requires atoms { formula_atoms left.now ≡ right.now.atoms }
+    ensures answer { IfOk result (λ found. IsFoundInclusion budget (cubes_to_cover left.now)
+        (formula_atoms left.now) (difference (is_to_cover left.now) (in_formula right.now))
+        found scratch.new.state) }
+    ensures lengths { KeepsLengths scratch.old scratch.new }
+{
+    cover_by(alloc, left, right, budget, scratch)
+}
+
+/// The same for a right set of which can be asked whether it has all states of a cube.
+fn cover_by<'a, R: OutsideAsked<'a>>(
+    alloc: Global,
+    left: &'a AnyFormula<'_>,
+    right: &'a R,
+    budget: u64,
+    scratch: &mut Scratch,
+) -> Result<Option<Finding>, AllocError>
+    requires budget { budget ≤ most_budget }
+    requires atoms { formula_atoms left.now ≡ R.atoms right.now }
+    ensures answer { IfOk result (λ found. IsFoundInclusion budget (cubes_to_cover left.now)
+        (formula_atoms left.now) (difference (is_to_cover left.now) (R.has right.now))
+        found scratch.new.state) }
+    ensures lengths { KeepsLengths scratch.old scratch.new }
+{
+    match left {
+        AnyFormula::Horn(set) => Ok(Some(together(alloc, *set, right, budget, scratch)?)),
+        AnyFormula::Dual(set) => Ok(Some(together(alloc, *set, right, budget, scratch)?)),
+        AnyFormula::Two(set) => Ok(Some(together(alloc, *set, right, budget, scratch)?)),
+        AnyFormula::States(set) => Ok(Some(within_states(alloc, *set, right, budget, scratch)?)),
+        AnyFormula::Node(_) => Ok(None),
     }
 }

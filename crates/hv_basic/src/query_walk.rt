@@ -3,11 +3,12 @@
 //! which one inquiry works out what serves all actions, have walks of their own (`node_walk`,
 //! `clausal_walk`).
 
-ghost use Rattle.std.specs.Prelude.{◌≡◌, IfOk, length, map};
+ghost use Rattle.std.specs.Prelude.{◌≡◌, Some, IfOk, length, map};
 ghost use Rattle.hv_task.specs.Strips.{atoms};
 ghost use Rattle.hv_sets.specs.Query.{HasAnchor, is_clash};
 ghost use Rattle.hv_sets.specs.Room.{KeepsLengths};
 ghost use Rattle.hv_lines.specs.Verdicts.{IsDecided};
+ghost use Rattle.hv_lines.specs.declared.verdict.Verdict.TheVariants as V;
 ghost use Rattle.hv_basic.specs.Working.Asked.{with_action};
 ghost use Rattle.hv_basic.specs.Working.Deciding.{AreAllReady};
 
@@ -44,15 +45,28 @@ pub(crate) fn walk<F: Family>(
             Finding::Empty => {}
             Finding::Over => return Ok(Verdict::Over),
             Finding::Clash => {
-                let state = copy_of(alloc, scratch.state())?;
-                return Ok(Verdict::False(Clash {
-                    action: *action,
-                    state: Some(state),
-                }));
+                let verdict = clash_at(alloc, *action, scratch.state())?;
+                return Ok(verdict);
             }
         }
     }
     Ok(Verdict::True)
+}
+
+/// That a statement is false by a counterexample to its query for this action: a copy of the state.
+pub(crate) fn clash_at(
+    alloc: Global,
+    action: Option<u32>,
+    state: &State,
+) -> Result<Verdict, AllocError>
+    ensures { IfOk result (λ verdict. verdict
+        ≡ V.False (record { action = action; state = Some state.now })) }
+{
+    let state = copy_of(alloc, state)?;
+    Ok(Verdict::False(Clash {
+        action,
+        state: Some(state),
+    }))
 }
 
 /// A copy of the state.

@@ -1,9 +1,10 @@
 -- Fronts of nodes that are moved down.
-use Rattle.std.proofs.Common.{◌≡◌, ℕ, zero, suc, ◌<◌, ◌≤◌, ◌+◌, ◌∙◌, ◌++◌, ◌⊎◌, Bool}
+use Rattle.std.proofs.Common.{◌≡◌, ℕ, zero, suc, ◌<◌, ◌≤◌, ◌+◌, ◌-◌, ◌∙◌, ◌++◌, ◌⊎◌, Bool}
 use Rattle.std.proofs.Common.{true, false, List, [], ◌∷◌, cond, length, get_or, refl, sym, ap}
 use Rattle.std.proofs.Common.{arith, inl, inr, subst, not}
 use Rattle.std.proofs.lemmas.Bool.{cases_lt}
-use Rattle.std.proofs.lemmas.List.{get_or_append_left, append_assoc, get_or_default, length-append}
+use Rattle.std.proofs.lemmas.List.{append-nil, append_assoc, get_or-append_right}
+use Rattle.std.proofs.lemmas.List.{get_or_append_left, get_or_default, length-append}
 use Rattle.std.proofs.lemmas.List.Elements.{Contains-append_left, Contains-append_right}
 use Rattle.std.proofs.lemmas.List.Elements.{Contains-push}
 use Rattle.std.specs.List.{Contains}
@@ -12,6 +13,7 @@ use Rattle.hv_sets.specs.declared.literal.Literal.{Literal}
 use Rattle.hv_sets.specs.Truth.{in_literal}
 use Rattle.hv_bdd.specs.Nodes.{NodeList, in_node, node_count}
 use Rattle.hv_bdd.specs.Reduced.{IsReduced, child, node_at}
+use Rattle.hv_bdd.specs.Fronts.{AreBelowBound}
 use Rattle.hv_bdd.specs.Working.Fronts.{IsContinued, IsAhead, IsPending, Turns, MovesTo}
 use Rattle.hv_bdd.specs.Working.Walking.{child_less, in_end, in_inner}
 
@@ -26,6 +28,22 @@ pub extends_more : (a b c : List ℕ) → IsContinued a b → IsContinued b c �
 extends_more a b c e f =
     (e.0 ++ f.0, f.1 ∙ (ap (λ xs. xs ++ f.0) e.1 ∙ append_assoc a (e.0) (f.0)))
 
+pub extends_same : (a : List ℕ) → IsContinued a a
+extends_same a = ([], sym (append-nil a))
+
+-- both parts of a list are below the bound
+pub below_both : (bound : ℕ) (xs ys : List ℕ) → AreBelowBound bound xs → AreBelowBound bound ys
+    → AreBelowBound bound (xs ++ ys)
+below_both bound xs ys first second k less =
+    elim (cases_lt k (length xs)) [
+      | inl early ↦
+          subst (λ n. n < bound) (sym (get_or_append_left xs ys 0 k early)) (first k early)
+      | inr late ↦
+          let size = length-append xs ys in
+          subst (λ n. n < bound) (sym (get_or-append_right xs ys (length xs) k 0 refl late))
+          (second (k - length xs) (omega arith))
+    ]
+
 contains_more : (a b : List ℕ) (x : ℕ) → IsContinued a b → Contains a x → Contains b x
 contains_more a b x e has = subst (λ xs. Contains xs x) (sym e.1) (Contains-append_left a
     (e.0) x has)
@@ -35,6 +53,24 @@ module _ (list : NodeList) (inside : Bool) where
       → MovesTo list inside first (out ++ queue)
   ahead_rest first out queue extends s x has is =
       (x, Contains-append_right out queue x (contains_more first queue x extends has), is)
+
+  -- all of them wait at first
+  pub ahead_begun : (out queue : List ℕ) → IsAhead list inside out queue 0
+  ahead_begun out queue s x has is =
+      let at = at_place queue x has in
+      (x, inr (at.0, omega arith, at.1, at.2), omega arith, is)
+
+  -- and at the end none
+  pub ahead_over : (first out queue : List ℕ) (at : ℕ) → length queue ≤ at
+      → IsContinued first queue → IsAhead list inside out queue at
+      → MovesTo list inside first out
+  ahead_over first out queue at past extends ahead s x has is =
+      let w = ahead s x (contains_more first queue x extends has) is in
+      (w.0, moved (w.0) (w.1), w.3)
+    where
+      moved : (y : ℕ) → IsPending out queue at y → Contains out y
+      moved y (inl there) = there
+      moved y (inr (k, from, within, same)) = absurd (omega (arith, from, within, past))
 
   -- the node at the place stays
   pub ahead_kept : (out queue : List ℕ) (at node : ℕ) → get_or queue at 0 ≡ node

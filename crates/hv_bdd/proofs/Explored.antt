@@ -22,7 +22,7 @@ use Rattle.smallvec.specs.SmallVec.{SmallVec}
 use Rattle.hv_bdd.specs.declared.tuple_search.Link.{Link}
 use Rattle.hv_bdd.specs.Working.Search.{IsExplored, IsPut, IsPutSome, link_at, tuple_at}
 use Rattle.hv_bdd.specs.Working.Sweeping.{IsTupleAdded}
-use Rattle.hv_bdd.specs.Tuples.{IsReached, Moves, TuplesPass, next}
+use Rattle.hv_bdd.specs.Tuples.{IsReached, Moves, TuplesPass, if_live, next}
 use Rattle.hv_bdd.proofs.Moved.{reached_in, reached_next}
 
 -- what holds of each of two lists one after the other
@@ -239,6 +239,39 @@ module _ {O : Type 0} (m : Moves O) (os : List O) (root : List ℕ) where
                   (subst (λ a. Contains a t) (sym new.1) (Contains-push ts t)),
             )
       ]
+
+  -- the first tuple is put in, where there was none
+  pub first_put : (ts : List (List ℕ)) (ls : List Link) (o : Option (List ℕ)) (link : Link)
+      → o ≡ if_live m os root → IsPutSome [] [] o link ts ls → Known 0 ts ls
+  first_put ts ls None link is put =
+      subst (λ a. Known 0 a ls) (sym put.0) (subst (Known 0 []) (sym put.1) (record {
+        size = refl;
+        upto = omega arith;
+        reached = All-nil (IsReached m os root);
+        apart = λ i j less within same_tuple. absurd (omega arith);
+        roots = λ u e.
+            let f : ◌≡◌ {A = Option (List ℕ)} None (Some u) = is ∙ e in absurd cc;
+        first = λ some. absurd (omega arith);
+        closed = λ k b u less e. absurd (omega arith);
+        parent = λ k some within. absurd (omega arith);
+        linked = λ k some within. absurd (omega arith);
+      }))
+  first_put ts ls (Some t) link is put = elim put [
+    | inl old ↦ let less = old.0.1 in absurd (omega arith)
+    | inr new ↦
+        subst (λ a. Known 0 a ls) (sym new.1) (subst (Known 0 (t ∷ [])) (sym new.2) (record {
+          size = refl;
+          upto = omega arith;
+          reached = All-push (IsReached m os root) [] t (All-nil (IsReached m os root))
+              ([], sym is);
+          apart = λ i j less within same_tuple. absurd (omega arith);
+          roots = λ u e. let same_tuple : t ≡ u = cc in (0, omega arith, same_tuple);
+          first = λ some. sym is;
+          closed = λ k b u less e. absurd (omega arith);
+          parent = λ k some within. absurd (omega arith);
+          linked = λ k some within. absurd (omega arith);
+        }))
+  ]
 
   -- the moves of one more tuple were put in
   pub explored_more : (done : ℕ) (ts : List (List ℕ)) (ls : List Link) → Known done ts ls

@@ -15,6 +15,7 @@ use Rattle.smallvec.specs.SmallVec.{SmallVec}
 use Rattle.hv_task.specs.State.{has_atom}
 use Rattle.hv_sets.specs.declared.finding.Finding.TheVariants as F
 use Rattle.hv_bdd.specs.Live.{moves, roots}
+use Rattle.hv_bdd.specs.declared.asked.Asked.{Asked}
 use Rattle.hv_bdd.specs.Nodes.{NodeList}
 use Rattle.hv_bdd.specs.Tuples.{IsReached, TuplesPass, if_live, least, next}
 use Rattle.hv_bdd.specs.Working.Graphs.{IsLiveAnswer, Suits, in_asked}
@@ -274,3 +275,11 @@ kept_of s list start goal (Some k) is_list is_start is_goal kept =
     subst (λ (x : NodeList). IsKeptTruly x start goal k) is_list
     (subst (λ (x : List Bool). IsKeptTruly s.setting.list x goal k) is_start
     (subst (λ (x : List Bool). IsKeptTruly s.setting.list s.setting.start x k) is_goal kept.1))
+
+-- and what is kept of its setting and its operands is kept of it
+pub kept_for : (s : TupleSearch) (asked : List Asked) (known : Option Untouched)
+    → asked ≡ s.asked → IfSome known (λ k. k.asked.items ≡ asked)
+    → IfSome known (IsKeptTruly s.setting.list s.setting.start s.setting.goal)
+    → IsKeptTrulyFor s known
+kept_for s asked None is same kept = tt
+kept_for s asked (Some k) is same kept = (same ∙ is, kept)

@@ -10,11 +10,11 @@
 //! What isn't in the table isn't known, so it may end early: where paths pass over many places, the
 //! fronts can have far more nodes than the diagram.
 
-ghost use Rattle.std.specs.Prelude.{◌≡◌, ◌≢◌, ◌<◌, ◌+◌, ◌↔◌, ℕ, length, IfOk, OnOk, true};
+ghost use Rattle.std.specs.Prelude.{◌≡◌, ◌≢◌, ◌<◌, ◌+◌, ◌↔◌, [], ℕ, length, IfOk, OnOk, true};
 ghost use Rattle.std.specs.Prelude.{IsTrue, slice_index};
 ghost use Rattle.std.specs.Int.{bit_at};
 ghost use Rattle.hv_bdd.specs.Exclusions.{AreExclusions, IsBatch, word_place};
-ghost use Rattle.hv_bdd.specs.Fronts.{AreBelowBound};
+ghost use Rattle.hv_bdd.specs.Fronts.{AreBelowBound, AreFronts};
 ghost use Rattle.hv_bdd.specs.Nodes.{IsNode};
 ghost use Rattle.hv_bdd.specs.Working.Excluding.{AreLandings, AreMasks, HasExclusion};
 ghost use Rattle.hv_bdd.specs.Working.Excluding.{IsExcluded, IsMask};
@@ -140,26 +140,66 @@ fn landings_of(alloc: Global, side: &NodeSide<'_>, node: u32) -> Result<Vec<Land
 {
     let mut fronts = Fronts::of(alloc, node)?;
     let mut landings = Vec::new(alloc);
+    land_all(alloc, side, node, &mut fronts, &mut landings)?;
+    Ok(landings)
+}
+
+// Lists them, until too many nodes are met.
+fn land_all(
+    alloc: Global,
+    side: &NodeSide<'_>,
+    node: u32,
+    fronts: &mut Fronts,
+    landings: &mut Vec<Landing>,
+) -> Result<(), AllocError>
+    requires fronts { AreFronts side.now.nodes.now side.now.inside node [] 0
+        fronts.old.levels.items }
+    requires landings { AreLandings side.now.nodes.now side.now.inside node landings.old.items }
+    ensures { OnOk result
+        (AreLandings side.now.nodes.now side.now.inside node landings.new.items) }
+{
     let atoms = side.nodes.atoms();
     let most = (node as usize + atoms as usize).saturating_mul(MOST_MET);
     let mut met = 0;
     for number in 0..atoms as usize * 2 {
         if met > most {
-            return Ok(landings);
+            return Ok(());
         }
-        let atom = side.nodes.atom_at((number / 2) as u32);
         let literal = Literal {
-            atom,
+            atom: side.nodes.atom_at((number / 2) as u32),
             positive: number % 2 == 1,
         };
-        fronts.reached = 0;
-        fronts.follow(side, node, &[literal])?;
-        let mut nodes = Vec::new(alloc);
-        nodes.extend_from_slice(fronts.levels[1].start.as_slice())?;
-        met = nodes.len().saturating_add(met);
-        landings.push(Landing { literal, nodes })?;
+        land(alloc, side, node, literal, fronts, landings)?;
+        met = fronts.levels[1].start.len().saturating_add(met);
     }
-    Ok(landings)
+    Ok(())
+}
+
+// Lists the nodes that are met after a literal.
+fn land(
+    alloc: Global,
+    side: &NodeSide<'_>,
+    node: u32,
+    literal: Literal,
+    fronts: &mut Fronts,
+    landings: &mut Vec<Landing>,
+) -> Result<(), AllocError>
+    requires atom { literal.atom < side.now.nodes.now.atoms }
+    requires fronts { AreFronts side.now.nodes.now side.now.inside node [] 0
+        fronts.old.levels.items }
+    requires landings { AreLandings side.now.nodes.now side.now.inside node landings.old.items }
+    ensures fronts { OnOk result (AreFronts side.now.nodes.now side.now.inside node [] 0
+        fronts.new.levels.items) }
+    ensures levels { OnOk result (1 < length fronts.new.levels.items) }
+    ensures landings { OnOk result
+        (AreLandings side.now.nodes.now side.now.inside node landings.new.items) }
+{
+    fronts.reached = 0;
+    fronts.follow(side, node, &[literal])?;
+    let mut nodes = Vec::new(alloc);
+    nodes.extend_from_slice(fronts.levels[1].start.as_slice())?;
+    landings.push(Landing { literal, nodes })?;
+    Ok(())
 }
 
 // The words of a batch: which of its literals may hold beside each literal.

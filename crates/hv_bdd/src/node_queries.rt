@@ -1,23 +1,18 @@
 //! Queries about nodes.
 
 ghost use Rattle.std.specs.Prelude.{◌≡◌, ◌<◌, ◌∷◌, ◌++◌, [], length, IfOk, IfSome, OnOk};
-ghost use Rattle.hv_task.specs.Strips.{IsTask, atoms};
-ghost use Rattle.hv_sets.specs.Cost.{IsAnswer};
-ghost use Rattle.hv_sets.specs.Query.{IsReady, action_of, is_clash};
+ghost use Rattle.hv_task.specs.Strips.{atoms};
+ghost use Rattle.hv_sets.specs.Query.{action_of};
 ghost use Rattle.hv_bdd.specs.Nodes.{in_node, node_count};
 ghost use Rattle.hv_bdd.specs.Live.{LivePass, asked_of, changed_by, needed_by, operands_of};
-ghost use Rattle.hv_bdd.specs.Reduced.{IsReduced};
 ghost use Rattle.hv_bdd.specs.Working.Search.{active, is_idle};
 
 use crate::asked::Asked;
 use crate::atom_bits::AtomBits;
 use crate::diagrams::Diagrams;
 use crate::node_inquiry::NodeInquiry;
-use crate::place_sweep::WaitingTuples;
-use crate::tuple_search::Search;
-use crate::untouched::Untouched;
 use hv_sets::{Family, Finding, Operand, Query, Scratch, Which};
-use hv_task::{State, Task};
+use hv_task::Task;
 use std::alloc::{AllocError, Global};
 
 impl Family for Diagrams {
@@ -41,39 +36,6 @@ impl Family for Diagrams {
     ) -> Result<Finding, AllocError> {
         let mut inquiry = NodeInquiry::new(self, task);
         inquiry.find(alloc, query, budget, scratch)
-    }
-}
-
-impl Search<'_> {
-    ghost use Rattle.hv_bdd.specs.Working.Search.{search_for};
-    ghost use Rattle.hv_bdd.specs.Working.Untouched.{IsKeptTrulyFor};
-
-    // The answer to the query that it is for; what is so known of other actions is kept.
-    pub(crate) fn answer(
-        &mut self,
-        alloc: Global,
-        task: &Task,
-        query: &Query,
-        budget: u64,
-        state: &mut State,
-        known: &mut Option<Untouched>,
-        waiting: &mut WaitingTuples,
-    ) -> Result<Finding, AllocError>
-        requires ready { IsReady (node_count self.old.setting.list) query.now }
-        requires query { self.old ≡ search_for self.old.setting.list task.now query.now }
-        requires is_task { IsTask task.now }
-        requires reduced { IsReduced self.old.setting.list }
-        requires task { self.old.setting.list.atoms ≡ atoms task.now }
-        requires state { length state.old ≡ atoms task.now }
-        requires known { IsKeptTrulyFor self.old known.old }
-        ensures answer { IfOk result (λ found.
-            IsAnswer found (LivePass self.old.setting.list task.now query.now budget)
-            (atoms task.now) (is_clash task.now (in_node self.old.setting.list) query.now)
-            state.new) }
-        ensures same { self.new ≡ self.old }
-        ensures known { OnOk result (IsKeptTrulyFor self.old known.new) }
-    {
-        self.find_and_keep(alloc, budget, state, known, waiting)
     }
 }
 

@@ -68,6 +68,11 @@ impl WaitingTuples {
             crowded: false,
         }
     }
+
+    /// Gives its room back.
+    pub(crate) fn give_back(&mut self, alloc: Global) {
+        *self = WaitingTuples::none(alloc);
+    }
 }
 
 impl Search<'_> {

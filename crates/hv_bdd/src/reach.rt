@@ -91,16 +91,44 @@ impl Search<'_> {
             tuples: IndexSet::new(alloc),
             links: Vec::new(alloc),
         };
-        let root = self.live_root(alloc)?;
-        reached.put(root, 0, false)?;
+        self.reach_all(alloc, budget, &mut reached)?;
+        Ok(reached)
+    }
+
+    // Puts them in, where none is.
+    fn reach_all(
+        &mut self,
+        alloc: Global,
+        budget: u64,
+        reached: &mut Reached,
+    ) -> Result<(), AllocError>
+        requires tuples { reached.old.tuples.keys ≡ [] }
+        requires links { reached.old.links.items ≡ [] }
+        ensures done { OnOk result (IsDone self.old budget reached.new) }
+        ensures search { IsTupleSearch self.old }
+        ensures same { self.new ≡ self.old }
+    {
+        self.put_root(alloc, reached)?;
         let mut marks = PlaceMarks::none(self.atoms());
         let mut done = 0;
         while done < reached.tuples.len() && reached.tuples.len() as u64 <= budget {
-            self.prepare(alloc, done, &reached)?;
-            self.expand(alloc, done, &mut reached, &mut marks)?;
+            self.prepare(alloc, done, reached)?;
+            self.expand(alloc, done, reached, &mut marks)?;
             done += 1;
         }
-        Ok(reached)
+        Ok(())
+    }
+
+    // Puts in the tuple of the roots, if it is live, where none is.
+    fn put_root(&self, alloc: Global, reached: &mut Reached) -> Result<(), AllocError>
+        requires tuples { reached.old.tuples.keys ≡ [] }
+        requires links { reached.old.links.items ≡ [] }
+        ensures explored { OnOk result (Explored self.now 0 reached.new) }
+        ensures search { IsTupleSearch self.now }
+    {
+        let root = self.live_root(alloc)?;
+        reached.put(root, 0, false)?;
+        Ok(())
     }
 
     // The tuple of the roots, if it is live.

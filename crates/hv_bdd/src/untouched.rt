@@ -6,11 +6,9 @@
 
 ghost use Rattle.std.specs.Prelude.{◌≡◌, ◌<◌, ◌≤◌, ℕ, [], None, length, true, IfOk, IfSome, OnOk};
 ghost use Rattle.std.specs.List.{All};
-ghost use Rattle.hv_task.specs.State.{has_atom, state_of};
-ghost use Rattle.hv_task.specs.Strips.{atoms, start_state};
-ghost use Rattle.hv_bdd.specs.Reduced.{IsReduced};
+ghost use Rattle.hv_task.specs.State.{has_atom};
 ghost use Rattle.hv_bdd.specs.Working.Graphs.{IsLiveAnswer};
-ghost use Rattle.hv_bdd.specs.Working.Untouched.{IsFruitless, IsKeptTruly};
+ghost use Rattle.hv_bdd.specs.Working.Untouched.{IsFruitless, IsKeptOf, IsKeptTruly};
 
 use crate::asked::Asked;
 use crate::atom_bits::AtomBits;
@@ -86,33 +84,38 @@ fn is_one(one: &Asked, other: &Asked) -> bool
     one.which == other.which && one.after == other.after && one.positive == other.positive
 }
 
-/// What is known of searches for these operands, where this was kept. What was kept of others makes
-/// room. Nothing is kept of a first query, since mostly it is the only one.
-pub(crate) fn known_for(
+/// Sees to it that what is kept is kept of searches for these operands: what was kept of others
+/// makes room. Nothing is kept of a first query, since mostly it is the only one.
+pub(crate) fn keep_for(
     alloc: Global,
-    kept: Option<Untouched>,
+    known: &mut Option<Untouched>,
     again: bool,
     nodes: &Diagrams,
     task: &Task,
     asked: &[Asked],
-) -> Result<Option<Untouched>, AllocError>
-    requires { IfSome kept (IsKeptTruly nodes.now (start_state task.now)
-        (state_of (atoms task.now) task.now.goal)) }
-    ensures asked { IfOk result (λ known. IfSome known (λ k. k.asked.items ≡ asked.now)) }
-    ensures known { IfOk result (λ known. IfSome known (IsKeptTruly nodes.now (start_state task.now)
-        (state_of (atoms task.now) task.now.goal))) }
-    ensures reduced { IsReduced nodes.now }
+) -> Result<(), AllocError>
+    requires { IsKeptOf nodes.now task.now known.old }
+    ensures asked { OnOk result (IfSome known.new (λ k. k.asked.items ≡ asked.now)) }
+    ensures known { OnOk result (IsKeptOf nodes.now task.now known.new) }
 {
-    let atoms = nodes.atoms();
-    if !again {
-        return Ok(None);
+    if again && is_of(known, asked) {
+        return Ok(());
     }
-    match kept {
-        Some(known) if known.is_for(asked) => Ok(Some(known)),
-        _ => {
-            let new = Untouched::new(alloc, asked, atoms)?;
-            Ok(Some(new))
-        }
+    *known = None;
+    if again {
+        let new = Untouched::new(alloc, asked, nodes.atoms())?;
+        *known = Some(new);
+    }
+    Ok(())
+}
+
+// Whether something is kept of these operands.
+fn is_of(known: &Option<Untouched>, asked: &[Asked]) -> bool
+    ensures { result ≡ true → IfSome known.now (λ k. k.asked.items ≡ asked.now) }
+{
+    match known {
+        None => false,
+        Some(known) => known.is_for(asked),
     }
 }
 
@@ -173,8 +176,30 @@ impl Search<'_> {
     ghost use Rattle.hv_bdd.specs.Working.Sweeping.{SweptSoFar};
     ghost use Rattle.hv_bdd.specs.Working.Untouched.{AsksAmong, IsKeptTrulyFor};
 
-    /// Looks for a state that suits the operands; and keeps what is so known of other actions.
-    pub(crate) fn find_and_keep(
+    /// Looks for a state that suits the operands; and keeps what is so known of other actions. It
+    /// is counted what this costs, if it is done once more.
+    pub(crate) fn count_and_find(
+        &mut self,
+        alloc: Global,
+        again: bool,
+        budget: u64,
+        state: &mut State,
+        known: &mut Option<Untouched>,
+        waiting: &mut WaitingTuples,
+    ) -> Result<Finding, AllocError>
+        requires state { length state.old ≡ self.old.setting.list.atoms }
+        requires known { IsKeptTrulyFor self.old known.old }
+        ensures answer { IfOk result (λ found.
+            IsLiveAnswer found self.old.setting self.old.asked budget state.new) }
+        ensures same { self.new ≡ self.old }
+        ensures known { OnOk result (IsKeptTrulyFor self.old known.new) }
+    {
+        self.count_root(alloc, again)?;
+        self.find_and_keep(alloc, budget, state, known, waiting)
+    }
+
+    // The same without counting it.
+    fn find_and_keep(
         &mut self,
         alloc: Global,
         budget: u64,
@@ -200,7 +225,7 @@ impl Search<'_> {
             }
             Swept::Unsettled => {
                 self.keep_crowded(waiting.crowded, known);
-                *waiting = WaitingTuples::none(alloc);
+                waiting.give_back(alloc);
                 self.find_among_all(alloc, budget, state, known)
             }
         }
@@ -248,9 +273,27 @@ impl Search<'_> {
         ensures known { OnOk result (IsKeptTrulyFor self.old known.new) }
     {
         let reached = self.reach(alloc, budget)?;
-        self.count_calm(&reached, known);
-        self.keep(budget, &reached, known);
-        Ok(self.conclude(budget, &reached, state))
+        Ok(self.conclude_and_keep(budget, &reached, state, known))
+    }
+
+    // What was found, where these tuples were reached by a search that made no sweep. What it tells
+    // of other actions is kept.
+    fn conclude_and_keep(
+        &self,
+        budget: u64,
+        reached: &Reached,
+        state: &mut State,
+        known: &mut Option<Untouched>,
+    ) -> Finding
+        requires done { IsDone self.now budget reached.now }
+        requires state { length state.old ≡ self.now.setting.list.atoms }
+        requires known { IsKeptTrulyFor self.now known.old }
+        ensures answer { IsLiveAnswer result self.now.setting self.now.asked budget state.new }
+        ensures known { IsKeptTrulyFor self.now known.new }
+    {
+        self.count_calm(reached, known);
+        self.keep(budget, reached, known);
+        self.conclude(budget, reached, state)
     }
 
     // Keeps what a sweep found, which reached so many tuples and passed these places.

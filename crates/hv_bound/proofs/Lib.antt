@@ -1,6 +1,8 @@
 pub mod Bounds
 pub mod Copying
+pub mod Faults
 pub mod Few
+pub mod PlanReads
 pub mod Spent
 pub mod Standing
 pub mod Steps

@@ -1,7 +1,7 @@
 //! The task that has a plan exactly where a given task has one that costs at most so much.
 
 ghost use Rattle.std.specs.Prelude.{◌≡◌, ℕ, ◌+◌, ◌<◌, ◌≤◌, ◌++◌, ◌∷◌, ◌↔◌, ◌^◌, [], length, map};
-ghost use Rattle.std.specs.Prelude.{IfOk, OnOk, IsErrOf, IsTrue};
+ghost use Rattle.std.specs.Prelude.{◌-◌, IfOk, OnOk, IsErrOf, IsTrue, decimal};
 ghost use Rattle.hv_task.specs.State.{AreBelow};
 ghost use Rattle.hv_task.specs.Strips.{IsOver, atoms};
 ghost use Rattle.hv_bound.specs.declared.fault.BoundFault.TheVariants as BoundFault;
@@ -75,12 +75,21 @@ fn made_task(alloc: Global, task: &Task, most: u32) -> Result<Task, AllocError>
     ensures { IfOk result (λ made. made ≡ bounded_task task.now most) }
 {
     let mut made = Task::new(alloc);
-    add_atoms(alloc, task, &mut made)?;
-    add_counters(alloc, most, &mut made)?;
+    add_parts(alloc, task, most, &mut made)?;
+    Ok(made)
+}
+
+// Adds all that the made task has.
+fn add_parts(alloc: Global, task: &Task, most: u32, made: &mut Task) -> Result<(), AllocError>
+    requires within { IsTooLarge task.now most → ⊥ }
+    requires none { made.old ≡ record { names = []; start = []; goal = []; actions = [] } }
+    ensures { OnOk result (made.new ≡ bounded_task task.now most) }
+{
+    add_atoms(alloc, task, made)?;
+    add_counters(alloc, most, made)?;
     made.set_start(with_atom(alloc, task.start(), task.atoms() + most)?);
     made.set_goal(task.goal().copy(alloc)?);
-    add_copies(alloc, task, most, &mut made)?;
-    Ok(made)
+    add_copies(alloc, task, most, made)
 }
 
 // Adds the atoms of the given task.
@@ -174,15 +183,45 @@ fn add_paid_copies(
 fn free_copy(alloc: Global, number: u32, action: &Action) -> Result<Action, AllocError>
     ensures { IfOk result (λ copy. copy ≡ free_copy number action.now) }
 {
-    let mut name = Text::new(alloc);
-    name.push_number(u64::from(number))?;
-    Ok(Action {
-        name: Name::new(alloc, name.as_bytes())?,
-        cost: action.cost,
-        pre: action.pre.copy(alloc)?,
-        add: action.add.copy(alloc)?,
-        del: action.del.copy(alloc)?,
-    })
+    let mut copy = no_lists(alloc, free_name(alloc, number)?, action.cost);
+    put_free_lists(alloc, action, &mut copy)?;
+    Ok(copy)
+}
+
+// An action of this name and cost that has no atoms yet.
+fn no_lists(alloc: Global, name: Name, cost: u32) -> Action
+    ensures { result ≡ record { name = name; cost = cost; pre = []; add = []; del = [] } }
+{
+    Action {
+        name,
+        cost,
+        pre: AtomList::new(alloc),
+        add: AtomList::new(alloc),
+        del: AtomList::new(alloc),
+    }
+}
+
+// Gives the copy of an action that costs nothing its lists.
+fn put_free_lists(alloc: Global, action: &Action, copy: &mut Action) -> Result<(), AllocError>
+    ensures { OnOk result (copy.new ≡ record copy.old {
+      pre = action.now.pre;
+      add = action.now.add;
+      del = action.now.del;
+    }) }
+{
+    copy.pre = action.pre.copy(alloc)?;
+    copy.add = action.add.copy(alloc)?;
+    copy.del = action.del.copy(alloc)?;
+    Ok(())
+}
+
+// Its name.
+fn free_name(alloc: Global, number: u32) -> Result<Name, AllocError>
+    ensures { IfOk result (λ name. name ≡ decimal number) }
+{
+    let mut text = Text::new(alloc);
+    text.push_number(u64::from(number))?;
+    Name::new(alloc, text.as_bytes())
 }
 
 // The copy of an action for where so much is left.
@@ -198,13 +237,32 @@ fn paid_copy(
     requires small { first_counter + left < 65535 }
     ensures { IfOk result (λ copy. copy ≡ paid_copy first_counter number action.now left) }
 {
-    Ok(Action {
-        name: paid_name(alloc, number, left)?,
-        cost: action.cost,
-        pre: with_atom(alloc, &action.pre, first_counter + left)?,
-        add: with_atom(alloc, &action.add, first_counter + left - action.cost)?,
-        del: with_atom(alloc, &action.del, first_counter + left)?,
-    })
+    let mut copy = no_lists(alloc, paid_name(alloc, number, left)?, action.cost);
+    put_paid_lists(alloc, first_counter, action, left, &mut copy)?;
+    Ok(copy)
+}
+
+// Gives the copy of an action that costs something its lists.
+fn put_paid_lists(
+    alloc: Global,
+    first_counter: u32,
+    action: &Action,
+    left: u32,
+    copy: &mut Action,
+) -> Result<(), AllocError>
+    requires over { IsOver first_counter action.now }
+    requires pays { action.now.cost ≤ left }
+    requires small { first_counter + left < 65535 }
+    ensures { OnOk result (copy.new ≡ record copy.old {
+      pre = action.now.pre ++ (first_counter + left) ∷ [];
+      add = action.now.add ++ (first_counter + left - action.now.cost) ∷ [];
+      del = action.now.del ++ (first_counter + left) ∷ [];
+    }) }
+{
+    copy.pre = with_atom(alloc, &action.pre, first_counter + left)?;
+    copy.add = with_atom(alloc, &action.add, first_counter + left - action.cost)?;
+    copy.del = with_atom(alloc, &action.del, first_counter + left)?;
+    Ok(())
 }
 
 // Its name.

@@ -6,5 +6,6 @@ pub mod Known
 pub mod LineFields
 pub mod LineLaws
 pub mod Places
+pub mod ReadParts
 pub mod ShortFronts
 pub mod WholeText

@@ -1,6 +1,6 @@
 -- A reader that takes the lines of a file one after another, against the pieces of the whole file.
 use Rattle.std.proofs.Common.{◌≡◌, ℕ, ◌+◌, ◌≤◌, ◌&&◌, All, Bool, true, false, cond, List, [], ◌∷◌}
-use Rattle.std.proofs.Common.{◌++◌, Option, None, Some, IfSome, length, nat_le, refl, sym, subst}
+use Rattle.std.proofs.Common.{◌++◌, Option, None, Some, IfSome, length, nat_le, refl, sym}
 use Rattle.std.proofs.Common.{ap, ◌∙◌, arith, inl, inr, ⊎_elim, append_assoc, append-nil}
 use Rattle.std.proofs.Common.{length-append}
 use Rattle.std.specs.Io.KnownBytes.{IsAtEnd}

@@ -69,11 +69,23 @@ pub(crate) fn has_no_other(list: &[u32], atoms: &[u32], others: &[u32]) -> bool
         ↔ All (λ a. Contains list.now a → Contains others.now a) atoms.now }
 {
     for atom in atoms {
-        if names_atom(list, *atom) && !names_atom(others, *atom) {
+        if !is_let(list, others, *atom) {
             return false;
         }
     }
     true
+}
+
+// Whether the atom isn't in the list, or is in the others too; both rise.
+fn is_let(list: &[u32], others: &[u32], atom: u32) -> bool
+    requires list { IsStrictlyIncreasing list.now }
+    requires others { IsStrictlyIncreasing others.now }
+    ensures { IsTrue result ↔ (Contains list.now atom → Contains others.now atom) }
+{
+    if !names_atom(list, atom) {
+        return true;
+    }
+    names_atom(others, atom)
 }
 
 // How many atoms of each list a walk over all of them has passed.

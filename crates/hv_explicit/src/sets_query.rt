@@ -118,8 +118,8 @@ impl<'a> SetsQuery<'a> {
     {
         let after = query.action.is_some();
         let states = first_len(sets, query.positive.as_slice());
-        let named = NamedSets::new(alloc, &query.negative, after, states, sets.len())?;
         let owners = sets.owners_for(alloc, query.negative.len())?;
+        let named = NamedSets::new(alloc, &query.negative, after, states, sets.len())?;
         let asks_before = ask_before(query.negative.as_slice());
         let bits = bits_of(task, query.action);
         Ok(SetsQuery {
@@ -624,7 +624,13 @@ impl SetsQuery<'_> {
         let Some(owners) = self.owners() else {
             return false;
         };
-        self.is_found(owners, before, false) || (self.acts() && self.is_found(owners, after, true))
+        if self.is_found(owners, before, false) {
+            return true;
+        }
+        if !self.acts() {
+            return false;
+        }
+        self.is_found(owners, after, true)
     }
 
     // Whether a negative operand that is asked about after the action (true) or before it (false)

@@ -3,6 +3,7 @@ use Rattle.std.proofs.Common.{◌≡◌, ◌∙◌, ◌+◌, ◌<◌, ◌≤◌,
 use Rattle.std.proofs.Common.{◌∷◌, length, take, get_or, set, refl, sym, ap, arith, subst, inl, inr}
 use Rattle.std.proofs.lemmas.Bool.{cases_eq, cases_lt}
 use Rattle.std.proofs.lemmas.List.{get_or_append_left, get_or_push, length_push}
+use Rattle.std.proofs.lemmas.List.{get_or-take, get_or_default, length-take-le, take-take}
 use Rattle.std.proofs.lemmas.List.{take-append-le, take_all}
 use Rattle.std.proofs.lemmas.List.{get_or-set_other, get_or-set_same, length-set}
 use Rattle.std.specs.List.{Contains}
@@ -11,7 +12,7 @@ use Rattle.hv_sets.specs.Truth.{in_clause, in_clauses, in_literal}
 use Rattle.hv_paths.specs.Along.{IsBarren}
 use Rattle.hv_formula.specs.declared.arranged.Arranged.{Arranged}
 use Rattle.hv_indexes.specs.Places.{clause_at}
-use Rattle.hv_formula.specs.Rest.{AreTrueAlong, AreTrueUpto, IsArranged}
+use Rattle.hv_formula.specs.Rest.{AreTrueAlong, AreTrueUpto, IsArranged, IsReadyFor}
 use Rattle.hv_formula.specs.Working.Rest.{AreTrueFrom, IsMade, KeepsUpto}
 use Rattle.hv_indexes.specs.Rows.{IsRow}
 use Rattle.hv_indexes.specs.Signed.{StandsAs}
@@ -277,3 +278,67 @@ module _ (clauses : List (List Literal)) where
 
       last : (i : ℕ) → i ≡ length points → get_or (points ++ done ∷ []) i 0 ≡ done
       last i end = get_or_push points done 0 i (sym end)
+
+-- what is told of along literals, once those from a place on are taken back
+module _ (clauses : List (List Literal)) (ls : List Literal) (order points : List ℕ)
+    (done depth at : ℕ) (along : AreTrueAlong clauses ls order points done)
+    (less : depth < length ls) (is : at ≡ get_or points depth at) where
+  at_is : get_or points depth 0 ≡ at
+  at_is = let sizes = along.sizes in
+      get_or_default points depth 0 at (omega (arith, less, sizes)) ∙ sym is
+
+  pub at_within : at ≤ done
+  at_within = let sizes = along.sizes in
+      subst (λ n. n ≤ done) at_is (along.within depth (omega (arith, less, sizes)))
+
+  pub along_back : AreTrueAlong clauses (take depth ls) order (take depth points) at
+  along_back =
+      let sizes = along.sizes in
+      let short : length (take depth points) ≡ depth =
+      length-take-le depth points (omega (arith, less, sizes)) in
+      let few : length (take depth ls) ≡ depth = length-take-le depth ls (omega (arith, less)) in
+      record {
+        sizes = short ∙ sym few;
+        rises = λ i j up below.
+            let early : j < depth = omega (arith, below, short) in
+            subst (λ n. n ≤ get_or (take depth points) j 0)
+            (sym (get_or-take depth points i 0 (omega (arith, up, early))))
+            (subst (λ n. get_or points i 0 ≤ n) (sym (get_or-take depth points j 0 early))
+            (along.rises i j up (omega (arith, early, less, sizes))));
+        within = λ i below.
+            let early : i < depth = omega (arith, below, short) in
+            subst (λ n. n ≤ at) (sym (get_or-take depth points i 0 early))
+            (subst (λ n. get_or points i 0 ≤ n) at_is
+            (along.rises i depth (omega (arith, early)) (omega (arith, less, sizes))));
+        before = λ i below.
+            let early : i < depth = omega (arith, below, short) in
+            subst (λ cube. AreTrueUpto clauses cube order (get_or (take depth points) i 0))
+            (sym (take-take i depth ls (omega (arith, early))))
+            (subst (λ n. AreTrueUpto clauses (take i ls) order n)
+            (sym (get_or-take depth points i 0 early))
+            (along.before i (omega (arith, early, less, sizes))));
+        here = subst (λ n. AreTrueUpto clauses (take depth ls) order n) at_is
+            (along.before depth (omega (arith, less, sizes)));
+      }
+
+-- and the list stays made
+pub ready_back : (clauses : List (List Literal)) (ls : List Literal) (ready : Bool)
+    (arranged : Arranged) (depth at : ℕ) → depth < length ls → at ≤ arranged.done
+    → IsReadyFor clauses ls ready arranged
+    → IsReadyFor clauses (take depth ls) ready
+    (record { order = arranged.order; places = arranged.places; done = at })
+ready_back clauses ls ready arranged depth at less within is = record {
+  made = λ e.
+      let made = is.made e in
+      let few = made.few in
+      record {
+        fits = made.fits;
+        size = made.size;
+        room = made.room;
+        few = omega (arith, within, few);
+        below = made.below;
+        within = made.within;
+        back = made.back;
+      };
+  first = λ e. let none = is.first e in absurd (omega (arith, none, less));
+}

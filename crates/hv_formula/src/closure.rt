@@ -148,6 +148,40 @@ pub(crate) struct Basis<'a> {
     pub watches: usize,
 }
 
+// Rows as long as there are atoms, and the places that looks into clauses remember.
+#[derive(Drop)]
+pub(crate) struct OwnRows {
+    pub places: Vec<u32>,
+    pub queue: Vec<u32>,
+    pub watched: Vec<u32>,
+}
+
+impl OwnRows {
+    // Those for so many atoms and so many entries of places.
+    fn new(alloc: Global, atoms: usize, watches: usize) -> Result<OwnRows, AllocError>
+        ensures places { IfOk result (λ rows. length rows.places.items ≡ atoms) }
+        ensures queue { IfOk result (λ rows. length rows.queue.items ≡ atoms) }
+    {
+        let places = row(alloc, atoms)?;
+        let queue = row(alloc, atoms)?;
+        let watched = row(alloc, watches)?;
+        Ok(OwnRows {
+            places,
+            queue,
+            watched,
+        })
+    }
+}
+
+// A row of so many entries, all 0.
+fn row(alloc: Global, len: usize) -> Result<Vec<u32>, AllocError>
+    ensures { IfOk result (λ row. length row.items ≡ len) }
+{
+    let mut row = Vec::new(alloc);
+    row.resize(len, 0)?;
+    Ok(row)
+}
+
 // How many entries the places take that looks into these clauses remember: two for each, up to the
 // last one of more than two literals.
 fn watches_of(clauses: &Clauses) -> usize {
@@ -218,15 +252,10 @@ fn force_in_rows(
     ensures never { IfOk result (λ r. r ≡ false
         → AreNever basis.now.atoms basis.now.bare.clauses.now) }
 {
-    let mut places = Vec::new(alloc);
-    places.resize(basis.atoms, 0)?;
-    let mut queue = Vec::new(alloc);
-    queue.resize(basis.atoms, 0)?;
-    let mut places_watched = Vec::new(alloc);
-    places_watched.resize(basis.watches, 0)?;
-    let places = places.as_mut_slice();
-    let queue = queue.as_mut_slice();
-    let watched = places_watched.as_mut_slice();
+    let mut rows = OwnRows::new(alloc, basis.atoms, basis.watches)?;
+    let places = rows.places.as_mut_slice();
+    let queue = rows.queue.as_mut_slice();
+    let watched = rows.watched.as_mut_slice();
     let mut marks = Assignment::over(basis.atoms, &[], places, queue, watched);
     if !conclude(&basis.bare, &mut marks) {
         return Ok(false);
@@ -293,15 +322,10 @@ fn try_values<K: ClauseKind>(
     ensures { IfOk result
         (λ r. r ≡ false → AreNever basis.now.atoms basis.now.bare.clauses.now) }
 {
-    let mut places = Vec::new(alloc);
-    places.resize(basis.atoms, 0)?;
-    let mut queue = Vec::new(alloc);
-    queue.resize(basis.atoms, 0)?;
-    let mut places_watched = Vec::new(alloc);
-    places_watched.resize(basis.watches, 0)?;
-    let places = places.as_mut_slice();
-    let queue = queue.as_mut_slice();
-    let watched = places_watched.as_mut_slice();
+    let mut rows = OwnRows::new(alloc, basis.atoms, basis.watches)?;
+    let places = rows.places.as_mut_slice();
+    let queue = rows.queue.as_mut_slice();
+    let watched = rows.watched.as_mut_slice();
     let mut marks = Assignment::over(basis.atoms, forced, places, queue, watched);
     Ok(try_each::<K>(&basis.bare, &mut marks))
 }

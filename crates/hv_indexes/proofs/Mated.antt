@@ -64,6 +64,16 @@ part_contains xs from upto x ends (k, less, is) =
       sym (get_or-between xs from upto k x (omega arith)) ∙ is,
     )
 
+-- what all items are below, those of a part are below, too
+pub part_inside : (xs : List ℕ) (from upto n : ℕ) → upto ≤ length xs
+    → ((k : ℕ) → k < length xs → get_or xs k 0 < n)
+    → (k : ℕ) → k < length (slice_range xs from upto) → get_or (slice_range xs from upto) k 0 < n
+part_inside xs from upto n ends all k less =
+    let size = length-between xs from upto ends in
+    let in_part : k < upto - from = omega (arith, less, size) in
+    subst (λ x. x < n) (sym (get_or-between xs from upto k 0 (omega arith)))
+    (all (from + k) (omega arith))
+
 -- one item more is inside, too
 pub push_inside : (xs : List ℕ) (y n : ℕ) → y < n → ((k : ℕ) → k < length xs → get_or xs k 0 < n)
     → (k : ℕ) → k < length (xs ++ y ∷ []) → get_or (xs ++ y ∷ []) k 0 < n
@@ -291,6 +301,19 @@ module _ (clauses : List (List Literal)) (heads : List RowHead) (places : List �
       now : (j : ℕ) (e : Cluster) → j ≡ at → get_or new.clusters.items j e ≡ cluster
       now j e one = ap (λ xs. get_or xs j e) put
           ∙ get_or_push old.clusters.items cluster e j (is.size ∙ sym one)
+
+-- where there are no clusters, none of the heads has one
+pub clusters_none : (clauses : List (List Literal)) (heads : List RowHead) (places : List ℕ)
+    (list : ClusterList) → list.clusters.items ≡ [] → list.screens.items ≡ []
+    → AreClustersUpto clauses heads places 0 list
+clusters_none clauses heads places list none bare = record {
+  size = ap length none;
+  each = λ j e less. absurd (omega (arith, less));
+  parts = λ codes are size j d e less. absurd (omega (arith, less));
+  exact = λ k d less.
+      let size : length list.screens.items ≡ 0 = ap length bare in
+      absurd (omega (arith, less, size));
+}
 
 -- a cluster was put of what is put under the next head
 pub puts_cluster : (clauses : List (List Literal)) (heads : List RowHead) (places : List ℕ)
@@ -535,6 +558,21 @@ module _ (clauses : List (List Literal)) (mates : Mates) (state : List Bool)
   all_decided false others negative positive =
       tried_false (IsDue true mates.positive state) positive
 
+-- where nothing is put, there are clusters of no clauses
+pub none_are : (them : Clusters) → them.heads.items ≡ [] → them.places.items ≡ []
+    → them.list.clusters.items ≡ [] → them.list.screens.items ≡ [] → AreClusters [] them
+none_are them heads places clusters screens =
+    let few : length them.heads.items ≡ 0 = ap length heads in
+    let none : length them.places.items ≡ 0 = ap length places in
+    let bare : length them.list.screens.items ≡ 0 = ap length screens in
+    record {
+      rises = λ i j d upto less. absurd (omega (arith, less, few));
+      size = ap length clusters ∙ sym (ap length heads);
+      inside = λ k less. absurd (omega (arith, less, none));
+      each = λ j e less. absurd (omega (arith, less, few));
+      exact = λ k d less. absurd (omega (arith, less, bare));
+    }
+
 -- clauses that were put are tried
 pub mates_are : (clauses : List (List Literal)) (put : PutClauses) (mates : Mates)
     → ArePut clauses (length clauses) put → length clauses ≤ 4294967295
@@ -590,7 +628,7 @@ cluster_screened clauses them state are speak at less cluster is k has screen sa
     (subst (λ s. IsScreened s (clause_at clauses c)) (sym same) (named.1 screen c within))
 
 -- a screen that is named is there
-screen_less : (screens : List Screen) (places : List ℕ) (clauses : List (List Literal))
+pub screen_less : (screens : List Screen) (places : List ℕ) (clauses : List (List Literal))
     (cluster : Cluster) (k : ℕ) → cluster.screen ≡ Some k → IsCluster clauses places screens cluster
     → k < length screens
 screen_less screens places clauses cluster k has own =
@@ -598,6 +636,15 @@ screen_less screens places clauses cluster k has own =
     × ((d : Screen) (x : ℕ) → Contains (cluster_places places cluster) x
     → IsScreened (get_or screens j d) (clause_at clauses x)))) has own.screened in
     named.0
+
+-- the cluster that stands at a place is one
+pub cluster_at : (clauses : List (List Literal)) (them : Clusters) → AreClusters clauses them
+    → (at : ℕ) → at < length them.heads.items → (cluster : Cluster)
+    → cluster ≡ get_or them.list.clusters.items at cluster
+    → IsCluster clauses them.places.items them.list.screens.items cluster
+cluster_at clauses them are at less cluster is =
+    subst (λ x. IsCluster clauses them.places.items them.list.screens.items x) (sym is)
+    (are.each at cluster less)
 
 -- where the screen of a cluster decides, it is so
 pub cluster_decided : (clauses : List (List Literal)) (them : Clusters) (state : List Bool)

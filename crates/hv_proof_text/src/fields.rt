@@ -29,8 +29,10 @@ pub(crate) fn first_letter(fields: Option<&[u8]>) -> Option<(Letter, Option<&[u8
         (λ p. fields_behind fields.entry (λ f. f.now)
         ≡ letter_field p.0 ∷ fields_behind p.1 (λ f. f.now)) }
 {
-    let (letter, behind) = letter_front(fields?)?;
-    Some((letter, behind))
+    let Some(line) = fields else {
+        return None;
+    };
+    letter_front(line)
 }
 
 /// The number of the first field, and what follows that.
@@ -42,8 +44,10 @@ pub(crate) fn first_number(fields: Option<&[u8]>) -> Option<(u64, Option<&[u8]>)
         (λ p. (p.0 < 10 ^ 18) × (fields_behind fields.entry (λ f. f.now)
         ≡ decimal p.0 ∷ fields_behind p.1 (λ f. f.now))) }
 {
-    let (number, behind) = decimal_front(fields?)?;
-    Some((number, behind))
+    let Some(line) = fields else {
+        return None;
+    };
+    decimal_front(line)
 }
 
 /// The word of the first field, and what follows that.
@@ -121,10 +125,23 @@ fn letter_front(line: &[u8]) -> Option<(Letter, Option<&[u8]>)>
         (λ p. cut_fields line.now ≡ letter_field p.0 ∷ fields_behind p.1 (λ f. f.now)) }
 {
     match line {
-        [byte] => Some((letter_of(*byte)?, None)),
-        [byte, b' ', rest @ ..] => Some((letter_of(*byte)?, Some(rest))),
+        [byte] => with_letter(*byte, None),
+        [byte, b' ', rest @ ..] => with_letter(*byte, Some(rest)),
         _ => None,
     }
+}
+
+/// The letter of this byte, and what follows it.
+#[inline(always)]
+fn with_letter(byte: u8, behind: Option<&[u8]>) -> Option<(Letter, Option<&[u8]>)>
+    ensures { MatchOption result
+        ((letter : Letter) → letter_field letter ≡ byte ∷ [] → ⊥)
+        (λ p. (letter_field p.0 ≡ byte ∷ []) × (p.1 ≡ behind.entry)) }
+{
+    let Some(letter) = letter_of(byte) else {
+        return None;
+    };
+    Some((letter, behind))
 }
 
 /// The two bytes that the first field is, and what follows that.
@@ -154,7 +171,9 @@ fn minus_front(line: &[u8]) -> Option<(u64, Option<&[u8]>)>
 {
     match line {
         [b'-', digits @ ..] => {
-            let (number, behind) = decimal_front(digits)?;
+            let Some((number, behind)) = decimal_front(digits) else {
+                return None;
+            };
             Some((number, behind))
         }
         _ => None,

@@ -103,30 +103,11 @@ fn push_expr(text: &mut Text, expr: &Expr) -> Result<(), AllocError>
     ensures keeps { KeepsFronts text.old text.new }
 {
     match expr {
-        Expr::Constant(constant) => {
-            push_field(text, b"c")?;
-            push_field(text, constant_text(*constant))
-        }
-        Expr::Horn(clauses) => {
-            push_field(text, b"h")?;
-            push_number(text, clauses.len() as u64)?;
-            push_clauses(text, clauses)
-        }
-        Expr::Dual(clauses) => {
-            push_field(text, b"d")?;
-            push_number(text, clauses.len() as u64)?;
-            push_clauses(text, clauses)
-        }
-        Expr::Two(clauses) => {
-            push_field(text, b"t")?;
-            push_number(text, clauses.len() as u64)?;
-            push_clauses(text, clauses)
-        }
-        Expr::States(states) => {
-            push_field(text, b"x")?;
-            push_number(text, states.len() as u64)?;
-            push_states(text, states)
-        }
+        Expr::Constant(constant) => push_constant(text, *constant),
+        Expr::Horn(clauses) => push_formula(text, b"h", clauses),
+        Expr::Dual(clauses) => push_formula(text, b"d", clauses),
+        Expr::Two(clauses) => push_formula(text, b"t", clauses),
+        Expr::States(states) => push_listed_states(text, states),
         Expr::Node(node) => push_one(text, b"b", *node as usize),
         Expr::Not(set) => push_one(text, b"n", *set),
         Expr::And(left, right) => push_pair(text, b"i", *left, *right),
@@ -134,6 +115,38 @@ fn push_expr(text: &mut Text, expr: &Expr) -> Result<(), AllocError>
         Expr::After(set, acts) => push_pair(text, b"p", *set, *acts),
         Expr::Before(set, acts) => push_pair(text, b"r", *set, *acts),
     }
+}
+
+/// Appends the fields of a constant set.
+fn push_constant(text: &mut Text, constant: Constant) -> Result<(), AllocError>
+    ensures ok { OnOk result (text.new
+        ≡ with_fields text.old (codes "c" ∷ constant_field constant ∷ [])) }
+    ensures keeps { KeepsFronts text.old text.new }
+{
+    push_field(text, b"c")?;
+    push_field(text, constant_text(constant))
+}
+
+/// Appends the letter of a formula, the count of its clauses, and these.
+fn push_formula(text: &mut Text, letter: &[u8], clauses: &Clauses) -> Result<(), AllocError>
+    ensures ok { OnOk result (text.new ≡ with_fields text.old
+        (letter.now ∷ decimal (length clauses.now) ∷ flat_map clause_fields clauses.now)) }
+    ensures keeps { KeepsFronts text.old text.new }
+{
+    push_field(text, letter)?;
+    push_number(text, clauses.len() as u64)?;
+    push_clauses(text, clauses)
+}
+
+/// Appends the fields of a list of states.
+fn push_listed_states(text: &mut Text, states: &StateList) -> Result<(), AllocError>
+    ensures ok { OnOk result (text.new ≡ with_fields text.old
+        (codes "x" ∷ decimal (length states.now) ∷ flat_map state_fields states.now)) }
+    ensures keeps { KeepsFronts text.old text.new }
+{
+    push_field(text, b"x")?;
+    push_number(text, states.len() as u64)?;
+    push_states(text, states)
 }
 
 /// Appends the fields of the statement.

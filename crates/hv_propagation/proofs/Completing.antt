@@ -87,6 +87,44 @@ module _ (Holds : List Bool → Type 0) (Settled : List ℕ → Type 0) where
           second.refuted e t (long ∙ ap length (sym same)) meets
           (subst (λ marks. Agrees marks t) (sym same) agrees) is
 
+  -- a value that was kept settles its atom
+  pub tried_kept : (atom : ℕ) (value : Bool) (old new : List ℕ)
+      → IsAssumed Holds Settled atom value old new true
+      → IsTried Holds Settled (λ marks. known marks atom ≡ None → ⊥) old new true
+  tried_kept atom value old new kept =
+      record {
+        size = kept.size;
+        grows = kept.grows;
+        settled = kept.settled;
+        done = λ _ none. (let is = kept.here refl in absurd cc);
+        refuted = λ e. absurd (let f : true ≡ false = e in cc);
+      }
+
+  -- where no atom was tried, none is missing
+  pub tried_none : (marks : List ℕ) → Settled marks
+      → IsTried Holds Settled (AllKnown 0) marks marks true
+  tried_none marks settled =
+      record {
+        size = refl;
+        grows = extends_same marks;
+        settled = settled;
+        done = λ _ a less. absurd (omega (arith, less));
+        refuted = λ e. absurd (let f : true ≡ false = e in cc);
+      }
+
+  -- what no state meets after some tries, none met before
+  pub tried_refuted : (First Second Last : List ℕ → Type 0) (old mid new : List ℕ)
+      → IsTried Holds Settled First old mid true → IsTried Holds Settled Second mid new false
+      → IsTried Holds Settled Last old new false
+  tried_refuted First Second Last old mid new first second =
+      record {
+        size = second.size ∙ first.size;
+        grows = λ a value k. second.grows a value (first.grows a value k);
+        settled = second.settled;
+        done = λ e. absurd (let f : false ≡ true = e in cc);
+        refuted = λ e state long holds. second.refuted e state (long ∙ sym first.size) holds;
+      }
+
   -- what was tried for one more atom
   pub tried_more : (old mid new : List ℕ) (atom : ℕ)
       → IsTried Holds Settled (AllKnown atom) old mid true

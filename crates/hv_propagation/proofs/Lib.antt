@@ -13,3 +13,4 @@ pub mod Completing
 pub mod Assuming
 pub mod Untouched
 pub mod Around
+pub mod Scanned

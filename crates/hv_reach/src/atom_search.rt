@@ -131,10 +131,19 @@ pub fn reached_atoms(alloc: Global, task: &Task, start: &State) -> Result<AtomLi
     requires { IsState task.now start.now }
     ensures { IfOk result (λ list. (p : ℕ) → Contains list p ↔ ReachedAtom task.now start.now p) }
 {
-    let mut search = AtomSearch::new(alloc, task)?;
-    let held = search.reached(alloc, task, start)?;
+    let held = reached_state(alloc, task, start)?;
     let list = list_of(alloc, &held)?;
     Ok(list)
+}
+
+// The same atoms, as the state that holds them.
+fn reached_state(alloc: Global, task: &Task, start: &State) -> Result<State, AllocError>
+    requires { IsState task.now start.now }
+    ensures { IfOk result (λ held. (p : ℕ)
+        → (has_atom held p ≡ true) ↔ ReachedAtom task.now start.now p) }
+{
+    let mut search = AtomSearch::new(alloc, task)?;
+    search.reached(alloc, task, start)
 }
 
 // Makes this the state that holds the atoms that are reached, and puts the places back.

@@ -1,8 +1,9 @@
 //! Notes of formulas whose states are dead.
 
-ghost use Rattle.std.specs.Prelude.{◌≡◌, ◌+◌, ◌++◌, [], ◌∷◌, length, IfOk, OnOk, OnErr};
+ghost use Rattle.std.specs.Prelude.{◌≡◌, ◌<◌, ◌≤◌, ◌+◌, ◌++◌, [], ◌∷◌, length, IfOk, OnOk, OnErr};
+ghost use Rattle.std.specs.Prelude.{vec_capacity, vec_len};
 ghost use Rattle.hv_task.specs.Strips.{IsTask};
-ghost use Rattle.hv_lines.specs.Drafts.{IsGoodTable, onto};
+ghost use Rattle.hv_lines.specs.Drafts.{IsGoodTable, most_lines, onto};
 ghost use Rattle.hv_lines.specs.Numbering.{expr_count, known_count};
 ghost use Rattle.hv_reach.specs.Working.NoteRows.{AreRowsOver};
 ghost use Rattle.hv_reach.specs.Written.{dead_block};
@@ -77,11 +78,33 @@ pub(crate) fn write_block(
     let set = draft.table().expr_count();
     let id = draft.table().known_count();
     let block = dead_block(alloc, set, id, clauses)?;
-    noted.notes.reserve(1)?;
-    noted.rows.reserve(alloc, row.atoms())?;
-    draft.reserve(8)?;
+    take_room(alloc, draft, noted, row.atoms())?;
     draft.push_all(task, block);
     noted.rows.push_reserved(row);
     noted.notes.push_reserved(Note { set, line: id + 3 });
     Ok(id + 3)
+}
+
+// Takes the memory for eight lines, a note, and a row of so many atoms.
+fn take_room(
+    alloc: Global,
+    draft: &mut Draft,
+    noted: &mut Noted,
+    atoms: u32,
+) -> Result<(), AllocError>
+    requires { AreRowsOver atoms noted.old.rows.rows }
+    ensures lines { draft.new.lines ≡ draft.old.lines }
+    ensures few { OnOk result (length draft.new.lines + 8 ≤ most_lines) }
+    ensures spare { OnOk result (8 ≤ draft.new.spare) }
+    ensures err { OnErr result (draft.new ≡ draft.old) }
+    ensures notes { noted.new.notes.items ≡ noted.old.notes.items }
+    ensures note_room { OnOk result (vec_len noted.new.notes < vec_capacity noted.new.notes) }
+    ensures rows { noted.new.rows.rows ≡ noted.old.rows.rows }
+    ensures row_atoms { OnOk result (noted.new.rows.atoms ≡ atoms) }
+    ensures row_room { OnOk result (0 < noted.new.rows.room) }
+{
+    noted.notes.reserve(1)?;
+    noted.rows.reserve(alloc, atoms)?;
+    draft.reserve(8)?;
+    Ok(())
 }

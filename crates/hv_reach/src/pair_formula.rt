@@ -4,9 +4,9 @@ ghost use Rattle.std.specs.Prelude.{◌≡◌, ◌<◌, ◌≤◌, ◌↔◌, �
 ghost use Rattle.std.specs.Prelude.{OnOk, is_some};
 ghost use Rattle.hv_lines.specs.Drafts.{IsGoodTable};
 ghost use Rattle.hv_lines.specs.Judged.{Concludes};
-ghost use Rattle.hv_task.specs.Strips.{atoms};
+ghost use Rattle.hv_task.specs.Strips.{atoms, start_state};
 ghost use Rattle.hv_reach.specs.declared.fault.ReachFault.TheVariants as F;
-ghost use Rattle.hv_reach.specs.Reached.{has_pair};
+ghost use Rattle.hv_reach.specs.Reached.{ReachedPair, has_pair};
 ghost use Rattle.hv_reach.specs.Written.{IsPairsProof, PairsExclude};
 ghost use Rattle.hv_reach.specs.Written.{pair_clauses, pairs_formula, row_clauses};
 
@@ -50,18 +50,39 @@ fn pairs_proof(alloc: Global, task: &Task) -> Result<Option<Draft>, AllocError>
         IsGoodTable task.now draft.lines)) }
     ensures concludes { IfOk result (λ found. IfSome found (λ draft. Concludes draft.lines)) }
 {
-    let start = task.start_state(alloc)?;
-    let mut held = Vec::new(alloc);
-    start.list_atoms(&mut held)?;
-    let mut space = PairSpace::new(alloc, task)?;
-    match space.reason(alloc, task, &start, held.as_slice())? {
+    match start_pairs(alloc, task)? {
         Some(pairs) => {
-            let clauses = pairs_formula(alloc, task.atoms(), &pairs)?;
-            let draft = horn_proof(alloc, task, clauses)?;
+            let draft = proof_by(alloc, task, &pairs)?;
             Ok(Some(draft))
         }
         None => Ok(None),
     }
+}
+
+// The pairs that are reached from the initial state, where some goal pair isn't among them.
+fn start_pairs(alloc: Global, task: &Task) -> Result<Option<Pairs>, AllocError>
+    ensures some { IfOk result (λ found. IsTrue (is_some found) ↔ PairsExclude task.now) }
+    ensures reached { IfOk result (λ found. IfSome found (λ pairs. (p q : ℕ)
+        → (has_pair pairs p q ≡ true) ↔ ReachedPair task.now (start_state task.now) p q)) }
+{
+    let start = task.start_state(alloc)?;
+    let mut space = PairSpace::new(alloc, task)?;
+    space.reason_from(alloc, task, &start)
+}
+
+// The proof by these pairs.
+fn proof_by(alloc: Global, task: &Task, pairs: &Pairs) -> Result<Draft, AllocError>
+    requires few { atoms task.now ≤ 1024 }
+    requires excludes { PairsExclude task.now }
+    requires reached { (p q : ℕ)
+        → (has_pair pairs.now p q ≡ true) ↔ ReachedPair task.now (start_state task.now) p q }
+    ensures lines { IfOk result (λ draft. IsPairsProof task.now draft.lines) }
+    ensures good { IfOk result (λ draft. IsGoodTable task.now draft.lines) }
+    ensures concludes { IfOk result (λ draft. Concludes draft.lines) }
+{
+    let clauses = pairs_formula(alloc, task.atoms(), pairs)?;
+    let draft = horn_proof(alloc, task, clauses)?;
+    Ok(draft)
 }
 
 /// The formula of the states that hold no other pairs than these.

@@ -1,17 +1,23 @@
 //! The pruner by reached pairs.
 
-ghost use Rattle.std.specs.Prelude.{◌≡◌, ◌≤◌, [], ◌↔◌, IsTrue, IfOk, IfSome, IfNone};
-ghost use Rattle.std.specs.Prelude.{MatchOption, OnErr, None, is_some};
+ghost use Rattle.std.specs.Prelude.{◌≡◌, ◌≤◌, ◌+◌, ◌++◌, [], ◌∷◌, ◌↔◌, Bool, List, length};
+ghost use Rattle.std.specs.Prelude.{IsTrue, IfOk, IfSome, IfNone, MatchOption, OnErr, OnOk, None};
+ghost use Rattle.std.specs.Prelude.{is_some};
 ghost use Rattle.hv_task.specs.AtomList.{IsListOf};
 ghost use Rattle.hv_task.specs.Strips.{IsState, atoms};
-ghost use Rattle.hv_lines.specs.Drafts.{IsGoodTable};
+ghost use Rattle.hv_lines.specs.Drafts.{IsGoodTable, onto};
+ghost use Rattle.hv_lines.specs.Numbering.{expr_count, known_count};
 ghost use Rattle.hv_lines.specs.Pruning.{Extends, IsPrunerAnswer, IsDeadBy, IsFirstNoted};
 ghost use Rattle.hv_lines.specs.Pruning.{NoneNoted};
 ghost use Rattle.hv_lines.specs.Working.Pruning.{IsOutcome};
 ghost use Rattle.hv_reach.specs.Index.{IsTaskIndex};
 ghost use Rattle.hv_reach.specs.Pruners.{AreDescribed, AreHornNotes, FitPairs, HoldsPairsOf};
 ghost use Rattle.hv_reach.specs.Pruners.{IsDenied, IsPairsBlock, PairsCover};
+ghost use Rattle.hv_reach.specs.Reached.{has_pair};
+ghost use Rattle.hv_reach.specs.Working.NoteRows.{AreRowsOver, IsDiagonal};
 ghost use Rattle.hv_reach.specs.Working.Pruners.{AreDiagonals};
+ghost use Rattle.hv_reach.specs.Working.Written.{IsDeadEnd};
+ghost use Rattle.hv_reach.specs.Written.{dead_block, pairs_formula};
 
 use crate::notes::{Noted, write_block};
 use crate::pair_formula::{MOST_ATOMS, pairs_formula};
@@ -179,15 +185,46 @@ fn pairs_answer(
     }
     match space.reason(alloc, task, state, kept.noted.held.as_slice())? {
         Some(pairs) => {
-            let clauses = pairs_formula(alloc, task.atoms(), &pairs)?;
             kept.reached.reserve(1)?;
-            let row = pairs.diagonal(alloc, task.atoms())?;
-            let line = write_block(alloc, task, draft, &mut kept.noted, clauses, row)?;
+            let line = write_pairs(alloc, task, draft, &mut kept.noted, &pairs)?;
             kept.reached.push_reserved(pairs);
             Ok(Some(line))
         }
         None => Ok(None),
     }
+}
+
+// Writes the block of these pairs, and notes it.
+fn write_pairs(
+    alloc: Global,
+    task: &Task,
+    draft: &mut Draft,
+    noted: &mut Noted,
+    pairs: &Pairs,
+) -> Result<usize, AllocError>
+    requires good { IsGoodTable task.now draft.old.lines }
+    requires size { length pairs.now ≡ atoms task.now }
+    requires dead { IsDeadEnd task.now (pairs_formula (atoms task.now) (has_pair pairs.now)) }
+    requires over { AreRowsOver (length pairs.now) noted.old.rows.rows }
+    ensures lines { OnOk result (draft.new.lines ≡ onto (dead_block (expr_count draft.old.lines)
+        (known_count draft.old.lines) (pairs_formula (atoms task.now) (has_pair pairs.now)))
+        draft.old.lines) }
+    ensures line { IfOk result (λ line. line ≡ known_count draft.old.lines + 3) }
+    ensures notes { OnOk result (noted.new.notes.items ≡ noted.old.notes.items ++ record {
+      set = expr_count draft.old.lines;
+      line = known_count draft.old.lines + 3;
+    } ∷ []) }
+    ensures rows { OnOk result ((row : List Bool) × IsDiagonal row pairs.now
+        × (noted.new.rows.rows ≡ noted.old.rows.rows ++ row ∷ [])) }
+    ensures good { OnOk result (IsGoodTable task.now draft.new.lines) }
+    ensures err_draft { OnErr result (draft.new ≡ draft.old) }
+    ensures err_notes { OnErr result (noted.new.notes.items ≡ noted.old.notes.items) }
+    ensures err_rows { OnErr result (noted.new.rows.rows ≡ noted.old.rows.rows) }
+{
+    let clauses = pairs_formula(alloc, task.atoms(), pairs)?;
+    let row = pairs.diagonal(alloc, task.atoms())?;
+    let line = write_block(alloc, task, draft, noted, clauses, row)?;
+    Ok(line)
 }
 
 // The line of the first note whose formula holds the state of these atoms: all their pairs were

@@ -110,28 +110,27 @@ impl PairSpace {
         Ok(PairSpace { index, search })
     }
 
-    /// The pairs that are reached from the state of these atoms.
+    /// The pairs that are reached from the state.
     pub(crate) fn reached(
         &mut self,
         alloc: Global,
         task: &Task,
         start: &State,
-        held: &[u32],
     ) -> Result<Pairs, AllocError>
         requires index { IsTaskIndex task.now self.old }
         requires state { IsState task.now start.now }
-        requires held { IsListOf start.now held.now }
         ensures atoms { IfOk result (λ pairs. length pairs ≡ atoms task.now) }
         ensures reached { IfOk result (λ pairs. (p q : ℕ)
             → (has_pair pairs p q ≡ true) ↔ ReachedPair task.now start.now p q) }
         ensures kept { self.new ≡ self.old }
     {
-        fill(task, &self.index, &mut self.search, start, held)?;
-        let rows = take_rows(alloc, task.atoms(), &mut self.search)?;
-        Ok(Pairs { rows })
+        fill_listed(alloc, task, &self.index, &mut self.search, start)?;
+        let pairs = take_pairs(alloc, task.atoms(), &mut self.search)?;
+        Ok(pairs)
     }
 
-    /// The same, where some goal pair isn't among them; otherwise there are none to tell.
+    /// The pairs that are reached from the state of these atoms, where some goal pair isn't among
+    /// them; otherwise there are none to tell.
     pub(crate) fn reason(
         &mut self,
         alloc: Global,
@@ -154,8 +153,27 @@ impl PairSpace {
         if has_pairs(task.atoms(), &self.search.rows, task.goal().as_slice()) {
             return Ok(None);
         }
-        let rows = take_rows(alloc, task.atoms(), &mut self.search)?;
-        Ok(Some(Pairs { rows }))
+        let pairs = take_pairs(alloc, task.atoms(), &mut self.search)?;
+        Ok(Some(pairs))
+    }
+
+    /// The same of a state whose atoms aren't listed yet.
+    pub(crate) fn reason_from(
+        &mut self,
+        alloc: Global,
+        task: &Task,
+        start: &State,
+    ) -> Result<Option<Pairs>, AllocError>
+        requires index { IsTaskIndex task.now self.old }
+        requires state { IsState task.now start.now }
+        ensures some { IfOk result (λ found. IsTrue (is_some found)
+            ↔ PairsExcludeFrom task.now start.now) }
+        ensures reached { IfOk result (λ found. IfSome found (λ pairs. (p q : ℕ)
+            → (has_pair pairs p q ≡ true) ↔ ReachedPair task.now start.now p q)) }
+    {
+        let mut held = Vec::new(alloc);
+        start.list_atoms(&mut held)?;
+        self.reason(alloc, task, start, held.as_slice())
     }
 }
 
@@ -170,10 +188,7 @@ pub fn reached_pairs(alloc: Global, task: &Task, start: &State) -> Result<Pairs,
         → (has_pair pairs p q ≡ true) ↔ ReachedPair task.now start.now p q) }
 {
     let mut space = PairSpace::new(alloc, task)?;
-    let mut held = Vec::new(alloc);
-    start.list_atoms(&mut held)?;
-    let pairs = space.reached(alloc, task, start, held.as_slice())?;
-    Ok(pairs)
+    space.reached(alloc, task, start)
 }
 
 // Makes the table that of the pairs that are reached: actions without precondition are visited
@@ -206,13 +221,35 @@ fn fill(
     Ok(())
 }
 
+// The same for a state whose atoms aren't listed yet.
+fn fill_listed(
+    alloc: Global,
+    task: &Task,
+    index: &Vec<Vec<u32>>,
+    search: &mut PairSearch,
+    start: &State,
+) -> Result<(), AllocError>
+    requires index { IsTaskIndex task.now index.now.items }
+    requires space { IsSpaceFor (atoms task.now) search.old }
+    requires state { IsState task.now start.now }
+    ensures space { IsSpaceFor (atoms task.now) search.new }
+    ensures table { OnOk result (IsPairTable (atoms task.now) search.new.rows.items) }
+    ensures reached { OnOk result ((p q : ℕ)
+        → (has_pair search.new.rows.items p q ≡ true) ↔ ReachedPair task.now start.now p q) }
+{
+    let mut held = Vec::new(alloc);
+    start.list_atoms(&mut held)?;
+    fill(task, index, search, start, held.as_slice())
+}
+
 // Takes the table out, and leaves one without pairs.
-fn take_rows(alloc: Global, atoms: u32, search: &mut PairSearch) -> Result<Vec<State>, AllocError>
-    requires { IsSpaceFor atoms search.old }
-    ensures rows { IfOk result (λ rows. rows.items ≡ search.old.rows.items) }
+fn take_pairs(alloc: Global, atoms: u32, search: &mut PairSearch) -> Result<Pairs, AllocError>
+    requires space { IsSpaceFor atoms search.old }
+    requires table { IsPairTable (length search.old.rows.items) search.old.rows.items }
+    ensures rows { IfOk result (λ pairs. pairs ≡ search.old.rows.items) }
     ensures space { IsSpaceFor atoms search.new }
 {
     let empty = table(alloc, atoms)?;
     let rows = replace(&mut search.rows, empty);
-    Ok(rows)
+    Ok(Pairs { rows })
 }

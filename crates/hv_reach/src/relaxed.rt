@@ -1,10 +1,12 @@
 //! The proof by the reached atoms.
 
-ghost use Rattle.std.specs.Prelude.{◌≡◌, ◌<◌, ◌↔◌, ◌++◌, IsTrue, IfOk, IfSome, OnOk};
+ghost use Rattle.std.specs.Prelude.{◌≡◌, ◌<◌, ◌↔◌, ◌++◌, ℕ, true, IsTrue, IfOk, IfSome, OnOk};
 ghost use Rattle.std.specs.Prelude.{is_some, length};
 ghost use Rattle.hv_lines.specs.Drafts.{IsGoodTable};
 ghost use Rattle.hv_lines.specs.Judged.{Concludes};
 ghost use Rattle.hv_task.specs.State.{has_atom};
+ghost use Rattle.hv_task.specs.Strips.{atoms, start_state};
+ghost use Rattle.hv_reach.specs.Reached.{ReachedAtom};
 ghost use Rattle.hv_reach.specs.Written.{IsRelaxedProof, RelaxedExcludes};
 ghost use Rattle.hv_reach.specs.Written.{atom_clauses, relaxed_formula};
 
@@ -25,17 +27,41 @@ pub fn prove_relaxed(alloc: Global, task: &Task) -> Result<Option<Draft>, AllocE
         IsGoodTable task.now draft.lines)) }
     ensures concludes { IfOk result (λ found. IfSome found (λ draft. Concludes draft.lines)) }
 {
-    let _atoms = task.atoms();
-    let start = task.start_state(alloc)?;
-    let mut search = AtomSearch::new(alloc, task)?;
-    match search.reason(alloc, task, &start)? {
+    match start_atoms(alloc, task)? {
         Some(reached) => {
-            let clauses = relaxed_formula(alloc, &reached)?;
-            let draft = horn_proof(alloc, task, clauses)?;
+            let draft = proof_by(alloc, task, &reached)?;
             Ok(Some(draft))
         }
         None => Ok(None),
     }
+}
+
+// The atoms that are reached from the initial state, where some goal atom isn't among them.
+fn start_atoms(alloc: Global, task: &Task) -> Result<Option<State>, AllocError>
+    ensures some { IfOk result (λ found. IsTrue (is_some found) ↔ RelaxedExcludes task.now) }
+    ensures size { IfOk result (λ found. IfSome found (λ held. length held ≡ atoms task.now)) }
+    ensures reached { IfOk result (λ found. IfSome found (λ held. (p : ℕ)
+        → (has_atom held p ≡ true) ↔ ReachedAtom task.now (start_state task.now) p)) }
+{
+    let start = task.start_state(alloc)?;
+    let mut search = AtomSearch::new(alloc, task)?;
+    search.reason(alloc, task, &start)
+}
+
+// The proof by these atoms.
+fn proof_by(alloc: Global, task: &Task, reached: &State) -> Result<Draft, AllocError>
+    requires size { length reached.now ≡ atoms task.now }
+    requires excludes { RelaxedExcludes task.now }
+    requires reached { (p : ℕ)
+        → (has_atom reached.now p ≡ true) ↔ ReachedAtom task.now (start_state task.now) p }
+    ensures lines { IfOk result (λ draft. IsRelaxedProof task.now draft.lines) }
+    ensures good { IfOk result (λ draft. IsGoodTable task.now draft.lines) }
+    ensures concludes { IfOk result (λ draft. Concludes draft.lines) }
+{
+    let _atoms = task.atoms();
+    let clauses = relaxed_formula(alloc, reached)?;
+    let draft = horn_proof(alloc, task, clauses)?;
+    Ok(draft)
 }
 
 /// The formula of the states that hold no other atoms than these.

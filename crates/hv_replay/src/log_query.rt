@@ -37,8 +37,24 @@ pub(crate) fn all_stay(
         → StaysInFirst task.now sets.now number action) }
 {
     let mut asking = query_of(alloc, number)?;
+    all_stay_by(alloc, task, sets, &mut asking)
+}
+
+// The same, by the query for the set.
+fn all_stay_by(
+    alloc: Global,
+    task: &Task,
+    sets: &Explicits,
+    asking: &mut LogQuery,
+) -> Result<bool, AllocError>
+    requires over { AreListsOver sets.now (atoms task.now) }
+    requires query { IsLogQuery asking.old }
+    requires number { asking.old.number < length sets.now }
+    ensures { IfOk result (λ all. all ≡ true → (action : ℕ) → action < length task.now.actions
+        → StaysInFirst task.now sets.now asking.old.number action) }
+{
     for action in 0..task.actions() {
-        if !stays(alloc, task, sets, &mut asking, action)? {
+        if !stays(alloc, task, sets, asking, action)? {
             return Ok(false);
         }
     }

@@ -76,12 +76,35 @@ fn first_open(
 {
     let mut asked = vec![in alloc; log.len(); log.len()]?;
     let mut state = State::empty(alloc, task.atoms())?;
+    let found = first_open_by(task, log, index, &mut asked, &mut state, from);
+    Ok(found)
+}
+
+// The same, with the places that were asked, and a state to write to.
+fn first_open_by(
+    task: &Task,
+    log: &Log,
+    index: &ExitIndex<'_>,
+    asked: &mut Vec<usize>,
+    state: &mut State,
+    from: usize,
+) -> Option<(usize, u32)>
+    requires atoms { log.now.atoms ≡ atoms task.now }
+    requires listed { ListsLog log.now index.now.listed.now }
+    requires rows { AreWaiting (atoms task.now) task.now.actions index.now.rows.now.items }
+    requires asked { length asked.old.items ≡ length log.now.entries }
+    requires lead { LeadAllOn task.now log.now asked.old.items }
+    requires state { IsState task.now state.old }
+    requires from { from ≤ length log.now.entries }
+    requires before { (place action : ℕ) → place < from → LeadsOn task.now log.now place action }
+    ensures { IsOpen task.now log.now result }
+{
     for place in from..log.len() {
-        if let Some(action) = open_action(task, log, index, &mut asked, &mut state, place) {
-            return Ok(Some((place, action)));
+        if let Some(action) = open_action(task, log, index, asked, state, place) {
+            return Some((place, action));
         }
     }
-    Ok(None)
+    None
 }
 
 // The least action that leads from the entry at this place, where it is an expanded state, to a

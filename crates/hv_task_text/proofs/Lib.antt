@@ -7,4 +7,5 @@ pub mod OneAnswer
 pub mod Parted
 pub mod Readable
 pub mod Sets
+pub mod TaskReads
 pub mod TaskTexts

@@ -1,9 +1,9 @@
 -- Lines up to the one that closes their list, and what follows the list.
 use Rattle.std.proofs.Common.{◌≡◌, ℕ, ◌+◌, List, [], ◌∷◌, ◌++◌, Option, None}
-use Rattle.std.proofs.Common.{Some, Ok, Err, refl, subst}
+use Rattle.std.proofs.Common.{Some, Ok, Err, refl, subst, sym}
 use Rattle.std.specs.Prelude.{IsErrAnd, Result}
 use Rattle.hv_bytes.specs.Pieces.{PieceBytes}
-use Rattle.hv_grammar.specs.Parsers.{Parser, after, done_or, followed, line}
+use Rattle.hv_grammar.specs.Parsers.{Parser, after, done_or, followed, iterate, line}
 use Rattle.hv_grammar.specs.Parsers.{many_till, pure, tested}
 use Rattle.hv_grammar.specs.Parsers.{◌>>=◌}
 use Rattle.hv_grammar.specs.Positions.{Position}
@@ -87,3 +87,22 @@ module _ {A B C X : Type 0} (part : X → Parser B A) (rest : A → Parser B C) 
       → IsErrAnd result (λ f. f ≡ e) → Reads whole old new result
   stops_as {e = e} g r is =
       stops rest g (subst (λ z. Reads (part z) mid new (Err e)) same r) is
+
+-- what was read, by another word for what it hangs on
+pub named_as : {A B X : Type 0} (part : X → Parser B A) {x y : X} {old new : Position}
+    {result : Result A (ParseFault B)} → x ≡ y → Reads (part x) old new result
+    → Reads (part y) old new result
+named_as part {old = old} {new = new} {result = result} same r =
+    subst (λ z. Reads (part z) old new result) same r
+
+-- and by another word for its value
+pub value_as : {A B : Type 0} {part : Parser B A} {a b : A} {old new : Position} → b ≡ a
+    → Reads part old new (Ok a) → Reads part old new (Ok b)
+value_as {part = part} {old = old} {new = new} same r =
+    subst (λ x. Reads part old new (Ok x)) (sym same) r
+
+-- no turn is left
+pub turned : {A B : Type 0} (whole : Parser B A) (part : A → Parser B A) (a : A) (k : ℕ)
+    (old mid : Position) → Goes whole old (iterate k part a) mid → k ≡ 0
+    → Goes whole old (pure a) mid
+turned whole part a k old mid g none = subst (λ n. Goes whole old (iterate n part a) mid) none g

@@ -2,7 +2,7 @@
 
 ghost use Rattle.std.specs.Prelude.{◌≡◌, ◌<◌, ◌≤◌, ◌↔◌, IfOk, IfSome, IsTrue, codes};
 ghost use Rattle.hv_grammar.specs.Forms.{is_word, numbered_in};
-ghost use Rattle.hv_task_text.specs.TaskFile.{atom_of, atom_or, item_in, item_or};
+ghost use Rattle.hv_task_text.specs.TaskFile.{atom_behind, atom_of, atom_or, item_in, item_or};
 ghost use Rattle.hv_task_text.specs.Working.Reading.{is_short_name};
 ghost use Rattle.hv_task_text.specs.Written.{IsItem};
 ghost use Rattle.hv_task_text.specs.declared.fault.TaskKind.TheVariants as Kind;
@@ -37,7 +37,7 @@ fn is_begin_action(line: &[u8]) -> bool
     }
 }
 
-// Whether the bytes are the second part of that word.
+// Whether the bytes are the last part of that word, or of the one that ends an action.
 fn is_action(bytes: &[u8]) -> bool
     ensures { IsTrue result ↔ (bytes.now ≡ codes "action") }
 {
@@ -102,15 +102,48 @@ pub fn atom_or(
     }
 }
 
+// The number of an atom behind the rest of the word `PRE:`.
+fn atom_of_pre(rest: &[u8], atoms: u32) -> Option<u32>
+    ensures atom { result ≡ atom_behind (codes "RE:") atoms rest.now }
+    ensures below { IfSome result (λ n. n < atoms) }
+{
+    match rest {
+        [b'R', b'E', b':', digits @ ..] => atom_of(decimal(digits), atoms),
+        _ => None,
+    }
+}
+
+// The number of an atom behind the rest of the word `ADD:`.
+fn atom_of_add(rest: &[u8], atoms: u32) -> Option<u32>
+    ensures atom { result ≡ atom_behind (codes "DD:") atoms rest.now }
+    ensures below { IfSome result (λ n. n < atoms) }
+{
+    match rest {
+        [b'D', b'D', b':', digits @ ..] => atom_of(decimal(digits), atoms),
+        _ => None,
+    }
+}
+
+// The number of an atom behind the rest of the word `DEL:`.
+fn atom_of_del(rest: &[u8], atoms: u32) -> Option<u32>
+    ensures atom { result ≡ atom_behind (codes "EL:") atoms rest.now }
+    ensures below { IfSome result (λ n. n < atoms) }
+{
+    match rest {
+        [b'E', b'L', b':', digits @ ..] => atom_of(decimal(digits), atoms),
+        _ => None,
+    }
+}
+
 // What the line says of one of so many atoms.
 fn item_in(line: &[u8], atoms: u32) -> Option<Item>
     ensures item { result ≡ item_in atoms line.now }
     ensures is_item { IfSome result (IsItem atoms) }
 {
     match line {
-        [b'P', b'R', b'E', b':', digits @ ..] => atom_of(decimal(digits), atoms).map(Item::Pre),
-        [b'A', b'D', b'D', b':', digits @ ..] => atom_of(decimal(digits), atoms).map(Item::Add),
-        [b'D', b'E', b'L', b':', digits @ ..] => atom_of(decimal(digits), atoms).map(Item::Del),
+        [b'P', rest @ ..] => atom_of_pre(rest, atoms).map(Item::Pre),
+        [b'A', rest @ ..] => atom_of_add(rest, atoms).map(Item::Add),
+        [b'D', rest @ ..] => atom_of_del(rest, atoms).map(Item::Del),
         _ => None,
     }
 }
@@ -120,7 +153,7 @@ fn is_end_action(line: &[u8]) -> bool
     ensures { IsTrue result ↔ (line.now ≡ codes "end_action") }
 {
     match line {
-        b"end_action" => true,
+        [b'e', b'n', b'd', b'_', rest @ ..] => is_action(rest),
         _ => false,
     }
 }

@@ -305,19 +305,51 @@ fn all_actions<R: Source>(alloc: Global, reader: &mut R, task: &mut Task) -> Rea
     )
 }
 
+// The initial state, which the task then has.
+fn put_start<R: Source>(alloc: Global, reader: &mut R, task: &mut Task) -> Read<()>
+    requires { CanRead (R.position reader.old) }
+    ensures reads { Reads (start_atoms (atoms task.old))
+        (R.position reader.old) (R.position reader.new) (placed task.new.start result) }
+    ensures task { OnOk result (task.new ≡ record task.old { start = task.new.start }) }
+{
+    let start = start_atoms(alloc, reader, task.atoms())?;
+    task.set_start(start);
+    Ok(())
+}
+
+// The goal, which the task then has.
+fn put_goal<R: Source>(alloc: Global, reader: &mut R, task: &mut Task) -> Read<()>
+    requires { CanRead (R.position reader.old) }
+    ensures reads { Reads (goal_atoms (atoms task.old))
+        (R.position reader.old) (R.position reader.new) (placed task.new.goal result) }
+    ensures task { OnOk result (task.new ≡ record task.old { goal = task.new.goal }) }
+{
+    let goal = goal_atoms(alloc, reader, task.atoms())?;
+    task.set_goal(goal);
+    Ok(())
+}
+
+// The parts of the file, which the task then has.
+fn parts<R: Source>(alloc: Global, reader: &mut R, task: &mut Task) -> Read<()>
+    requires can { CanRead (R.position reader.old) }
+    requires fresh { task.old ≡ no_task }
+    ensures { Reads task_file
+        (R.position reader.old) (R.position reader.new) (placed task.new result) }
+{
+    atom_names(alloc, reader, task)?;
+    put_start(alloc, reader, task)?;
+    put_goal(alloc, reader, task)?;
+    all_actions(alloc, reader, task)?;
+    end_of_input(reader, TaskRefusal::Place(TaskKind::End))
+}
+
 // The whole file.
 fn whole<R: Source>(alloc: Global, reader: &mut R) -> Read<Task>
     requires { CanRead (R.position reader.old) }
     ensures { Reads task_file (R.position reader.old) (R.position reader.new) result }
 {
     let mut task = Task::new(alloc);
-    atom_names(alloc, reader, &mut task)?;
-    let start = start_atoms(alloc, reader, task.atoms())?;
-    task.set_start(start);
-    let goal = goal_atoms(alloc, reader, task.atoms())?;
-    task.set_goal(goal);
-    all_actions(alloc, reader, &mut task)?;
-    end_of_input(reader, TaskRefusal::Place(TaskKind::End))?;
+    parts(alloc, reader, &mut task)?;
     Ok(task)
 }
 

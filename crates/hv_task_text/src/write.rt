@@ -51,6 +51,18 @@ fn write_atoms(text: &mut Text, word: &[u8], atoms: &AtomList) -> Result<(), All
     Ok(())
 }
 
+// A set of atoms between its two words.
+fn write_set(text: &mut Text, first: &[u8], set: &AtomList, last: &[u8]) -> Result<(), AllocError>
+    ensures text { OnOk result (text.new ≡ ((text.old ++ with_lf first.now)
+        ++ flat_map (λ n. with_lf (decimal n)) set.now) ++ with_lf last.now) }
+    ensures rises { OnOk result (IsStrictlyIncreasing set.now) }
+{
+    write_line(text, first)?;
+    write_atoms(text, b"", set)?;
+    write_line(text, last)?;
+    Ok(())
+}
+
 fn write_names(text: &mut Text, task: &Task) -> Result<(), AllocError>
     ensures { OnOk result (text.new
         ≡ text.old ++ bytes_of_lines (name_lines (length task.now.names) task.now.names)) }
@@ -70,12 +82,8 @@ fn write_head(text: &mut Text, task: &Task) -> Result<(), AllocError>
 {
     write_names(text, task)?;
     write_line(text, b"end_atoms")?;
-    write_line(text, b"begin_init")?;
-    write_atoms(text, b"", task.start())?;
-    write_line(text, b"end_init")?;
-    write_line(text, b"begin_goal")?;
-    write_atoms(text, b"", task.goal())?;
-    write_line(text, b"end_goal")?;
+    write_set(text, b"begin_init", task.start(), b"end_init")?;
+    write_set(text, b"begin_goal", task.goal(), b"end_goal")?;
     Ok(())
 }
 

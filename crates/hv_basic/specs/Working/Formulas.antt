@@ -1,10 +1,11 @@
 -- Formulas of the five families, and what is found of an inclusion between two of them.
-use Rattle.std.specs.Prelude.{◌≡◌, ◌<◌, ℕ, Bool, List, Option, None, Some, length}
+use Rattle.std.specs.Prelude.{◌≡◌, ◌<◌, ℕ, Bool, false, List, Option, None, Some, length}
 use Rattle.hv_sets.specs.Cost.{IsAnswer}
 use Rattle.hv_sets.specs.declared.finding.Finding.{Finding}
 use Rattle.hv_formula.specs.Clausal.{in_formula}
 use Rattle.hv_formula.specs.Denial.{steps_of}
 use Rattle.hv_explicit.specs.ListedStates.{full_cubes, in_listing}
+use Rattle.hv_mixed.specs.Inclusion.{complement}
 use Rattle.hv_bdd.specs.Nodes.{NodeList, in_node}
 use Rattle.hv_bdd.specs.Paths.{path_cubes}
 use Rattle.hv_lines.specs.Mixed.{clause_count, count_unless, either_count, listed_count}
@@ -55,6 +56,23 @@ inside_count (M.Dual set) = None
 inside_count (M.Two set) = None
 inside_count (M.States set) = Some (length (full_cubes set.now))
 inside_count (M.Node set) = Some (length (path_cubes set.nodes.now 1 set.node))
+
+-- of how many cubes is asked whether another formula has their states, where this is asked: those
+-- of the listed states, and those outside a formula in clauses
+abbrev pub cubes_to_cover : AnyFormula → Option ℕ
+cubes_to_cover (M.Horn set) = Some (length set.now.clauses)
+cubes_to_cover (M.Dual set) = Some (length set.now.clauses)
+cubes_to_cover (M.Two set) = Some (length set.now.clauses)
+cubes_to_cover (M.States set) = Some (length set.now.states)
+cubes_to_cover (M.Node set) = None
+
+-- the state is in one of these cubes
+abbrev pub is_to_cover : AnyFormula → List Bool → Bool
+is_to_cover (M.Horn set) = complement (in_formula set.now)
+is_to_cover (M.Dual set) = complement (in_formula set.now)
+is_to_cover (M.Two set) = complement (in_formula set.now)
+is_to_cover (M.States set) = in_listing set.now
+is_to_cover (M.Node set) = λ _. false
 
 -- the formula is over so many atoms, or it is one of these nodes
 abbrev pub IsFormulaFor : ℕ → NodeList → AnyFormula → Type 0

@@ -1,7 +1,8 @@
 -- What is known of all searches of the same operands whose actions mark none of some places.
 use Rattle.std.specs.Prelude.{◌≡◌, ◌<◌, ◌≤◌, ℕ, Bool, true, List, Option, None, IfSome, MatchOption}
 use Rattle.std.specs.Prelude.{length}
-use Rattle.hv_task.specs.State.{has_atom}
+use Rattle.hv_task.specs.State.{has_atom, state_of}
+use Rattle.hv_task.specs.Strips.{Strips, atoms, start_state}
 use Rattle.hv_sets.specs.declared.finding.Finding.TheVariants as F
 use Rattle.hv_bdd.specs.declared.asked.Asked.{Asked}
 use Rattle.hv_bdd.specs.declared.untouched.Untouched.{Untouched}
@@ -43,6 +44,11 @@ pub record IsKeptTruly (list : NodeList) (start goal : List Bool) (known : Untou
   pub size : length known.places ≡ list.atoms
   pub nothing : IfSome known.count (λ count.
       FindNothing list start goal known.asked.items known.places count)
+
+-- so is what is kept of a task's searches, if anything is
+abbrev pub IsKeptOf : NodeList → Strips → Option Untouched → Type 0
+IsKeptOf list task known =
+    IfSome known (IsKeptTruly list (start_state task) (state_of (atoms task) task.goal))
 
 -- and it is kept of the operands of a search
 abbrev pub IsKeptTrulyFor : TupleSearch → Option Untouched → Type 0

@@ -1,11 +1,12 @@
-use Rattle.std.proofs.Common.{◌≡◌, ◌∙◌, ◌<◌, ℕ, Option, Some, None, IfSome, ap, get_or, length}
-use Rattle.std.proofs.Common.{refl, subst, sym}
+use Rattle.std.proofs.Common.{◌∙◌, ◌<◌, ℕ, Option, None, IfSome, ap, get_or, length}
+use Rattle.std.proofs.Common.{map, refl, subst, sym}
 use Rattle.std.proofs.lemmas.Option.{slice_get-get_or}
 use Rattle.hv_task.specs.Strips.{Strips, atoms}
 use Rattle.hv_clauses.specs.Inquiry.{InquiryState}
 use Rattle.hv_clauses.specs.Store.{formula_at, sizes_of, tests_of}
 use Rattle.hv_sets.specs.Cost.{ClausesPass}
 use Rattle.hv_sets.specs.Query.{is_clash}
+use Rattle.hv_lines.specs.Verdicts.{IsDecided}
 use Rattle.hv_basic.specs.Working.Asked.{with_action}
 use Rattle.hv_basic.proofs.Inquired.{clause_answer_here}
 use Rattle.hv_basic.proofs.Walking.{all_settled, clash_here, first_at, over_here}
@@ -64,7 +65,11 @@ returns-in-Clash-clause-answer g c =
     c.loop-action.invariant.task c.loop-action.invariant.store c.loop-action.invariant.positive
     c.loop-action.invariant.negative c.loop-action.invariant.budget c.ask.ensures.answer)
     c.in-Clash.is in
-    let same : c.in_ok-found-in-Clash.found ≡ c.ask.new.state = c.in_ok-found-in-Clash.ensures in (
+    subst (IsDecided (λ q. ClausesPass c.args.case.now.task.now
+    (sizes_of (formula_at c.args.sets.now)) q c.args.case.now.budget)
+    (is_clash c.args.case.now.task.now (tests_of (formula_at c.args.sets.now)))
+    (atoms c.args.case.now.task.now) (map (with_action c.args.query.now) c.args.actions.now))
+    (sym c.in_ok-verdict-in-Clash.ensures) (
       with_action c.args.query.now a,
       first_at (λ q. ClausesPass c.args.case.now.task.now
           (sizes_of (formula_at c.args.sets.now)) q c.args.case.now.budget)
@@ -79,7 +84,7 @@ returns-in-Clash-clause-answer g c =
         refl,
         (
           c.ask.new.state,
-          ap Some same,
+          refl,
           found.1,
           found.2,
         ),

@@ -1,19 +1,11 @@
-use Rattle.std.proofs.Common.{Some, ap, length, subst, sym}
-use Rattle.std.proofs.lemmas.List.{length-map}
-use Rattle.hv_explicit.specs.ListedStates.{full_cube, full_cubes}
-use Rattle.hv_mixed.specs.Inclusion.{difference}
-use Rattle.hv_basic.specs.Working.Formulas.{IsFoundInclusion, formula_atoms, formula_has}
-use Rattle.hv_basic.specs.Working.Formulas.{within_cost}
+use Rattle.std.proofs.Common.{ap}
+use Rattle.hv_lines.specs.Mixed.{listed_count}
+use Rattle.hv_basic.specs.Working.Formulas.{expr_of}
+use Rattle.hv_basic.proofs.Covering.{listed_within}
 use Rattle.hv_basic.proofs.mixed.find_within.Goals as goal
 
 pub returns-in_ok-found-in-States-clause-answer : goal.returns-in_ok-found-in-States-clause-answer
 returns-in_ok-found-in-States-clause-answer c =
-    let right = c.args.right.now in
-    subst (λ f. IsFoundInclusion c.args.budget (within_cost f right) (formula_atoms f)
-    (difference (formula_has f) (formula_has right)) (Some c.in_ok-found-in-States.found)
-    c.within_by_states.new.scratch.state) (sym c.in-States.is) (
-      length (full_cubes c.in-States.set.now),
-      ap Some (sym (length-map c.in-States.set.now.states
-          (λ held. full_cube c.in-States.set.now.atoms held))),
-      c.in_ok-found-in-States.ensures.answer,
-    )
+    listed_within c.args.budget c.args.left.now c.args.right.now c.in_ok-found-in-States.found
+    c.cover.new.scratch.state _ (ap (λ f. listed_count (expr_of f)) c.in-States.is)
+    c.requires.families c.in_ok-found-in-States.ensures.answer

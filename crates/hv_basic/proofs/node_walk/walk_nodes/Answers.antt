@@ -1,143 +1,32 @@
-use Rattle.std.proofs.Common.{◌≡◌, ◌∙◌, ◌<◌, ℕ, Option, Some, None, IfSome, ap, get_or, length}
-use Rattle.std.proofs.Common.{refl, subst, sym}
-use Rattle.std.proofs.lemmas.Option.{slice_get-get_or}
+use Rattle.std.proofs.Common.{IfOk, length, map, subst, sym}
 use Rattle.hv_task.specs.Strips.{Strips, atoms}
-use Rattle.hv_sets.specs.Query.{IsReady, is_clash}
-use Rattle.hv_bdd.specs.Live.{LivePass, NodeTask}
+use Rattle.hv_sets.specs.Query.{is_clash}
+use Rattle.hv_bdd.specs.Live.{LivePass}
 use Rattle.hv_bdd.specs.Nodes.{NodeList, in_node, node_count}
+use Rattle.hv_lines.specs.Verdicts.{IsDecided}
 use Rattle.hv_basic.specs.Working.Asked.{with_action}
-use Rattle.hv_basic.proofs.Inquired.{answer_here}
-use Rattle.hv_basic.proofs.Walking.{all_settled, clash_here, first_at, lengths_kept, over_here}
-use Rattle.hv_basic.proofs.Walking.{same_query, settled_here, settled_more}
+use Rattle.hv_basic.specs.Working.Deciding.{AreAllReady}
 use Rattle.hv_basic.proofs.node_walk.walk_nodes.Goals as goal
 
-pub find-requires-clause-ready : goal.find-requires-clause-ready
-find-requires-clause-ready c =
-    let a : Option ℕ = get_or c.args.actions.now c.loop-action.action-index None in
-    subst (λ (list : NodeList). IsReady (node_count list) (with_action c.loop-action.query a))
-    (sym c.loop-action.invariant.list)
-    (subst (IsReady (node_count c.args.case.now.diagrams.now))
-    (sym (same_query c.args.query.now c.loop-action.query a c.loop-action.invariant.positive
-    c.loop-action.invariant.negative))
-    (c.requires.ready.ready c.loop-action.action-index a
-    (slice_get-get_or c.args.actions.now c.loop-action.action-index None
-    c.loop-action-test.true)))
-
-pub find-requires-clause-action : goal.find-requires-clause-action
-find-requires-clause-action c =
-    let a : Option ℕ = get_or c.args.actions.now c.loop-action.action-index None in
-    subst (λ (task : Strips). IfSome a (λ at. at < length task.actions))
-    (sym c.loop-action.invariant.task)
-    (c.requires.ready.below c.loop-action.action-index a
-    (slice_get-get_or c.args.actions.now c.loop-action.action-index None
-    c.loop-action-test.true))
-
-pub returns-in-Over-clause-answer : goal.returns-in-Over-clause-answer
-returns-in-Over-clause-answer c =
-    let a : Option ℕ = get_or c.args.actions.now c.loop-action.action-index None in (
-      with_action c.args.query.now a,
-      first_at (λ q. LivePass c.args.case.now.diagrams.now c.args.case.now.task.now q
-          c.args.case.now.budget)
-          (is_clash c.args.case.now.task.now (in_node c.args.case.now.diagrams.now)) (atoms
-          c.args.case.now.task.now)
-          c.args.query.now c.args.actions.now c.loop-action.action-index a
-          c.loop-action.invariant.settled
-          (slice_get-get_or c.args.actions.now c.loop-action.action-index None
-          c.loop-action-test.true),
-      over_here (λ q. LivePass c.args.case.now.diagrams.now c.args.case.now.task.now q
-          c.args.case.now.budget)
-          (is_clash c.args.case.now.task.now (in_node c.args.case.now.diagrams.now)) (atoms
-          c.args.case.now.task.now)
-          (with_action c.loop-action.query a) (with_action c.args.query.now a)
-          (same_query c.args.query.now c.loop-action.query a c.loop-action.invariant.positive
-          c.loop-action.invariant.negative)
-          c.find.new.scratch.state c.in_ok-find.field-0
-          (answer_here (with_action c.loop-action.query a) c.args.case.now.budget
-          c.in_ok-find.field-0 c.find.new.scratch.state c.loop-action.inquiry
-          c.args.case.now.diagrams.now c.args.case.now.task.now c.loop-action.invariant.list
-          c.loop-action.invariant.task c.in_ok-find.ensures.answer)
-          c.in-Over.is,
-    )
-
-pub returns-in-Clash-clause-answer : goal.returns-in-Clash-clause-answer
-returns-in-Clash-clause-answer c =
-    let a : Option ℕ = get_or c.args.actions.now c.loop-action.action-index None in
-    let found =
-    clash_here (λ q. LivePass c.args.case.now.diagrams.now c.args.case.now.task.now q
-    c.args.case.now.budget)
-    (is_clash c.args.case.now.task.now (in_node c.args.case.now.diagrams.now)) (atoms
-    c.args.case.now.task.now)
-    (with_action c.loop-action.query a) (with_action c.args.query.now a)
-    (same_query c.args.query.now c.loop-action.query a c.loop-action.invariant.positive
-    c.loop-action.invariant.negative)
-    c.find.new.scratch.state c.in_ok-find.field-0
-    (answer_here (with_action c.loop-action.query a) c.args.case.now.budget
-    c.in_ok-find.field-0 c.find.new.scratch.state c.loop-action.inquiry
-    c.args.case.now.diagrams.now c.args.case.now.task.now c.loop-action.invariant.list
-    c.loop-action.invariant.task c.in_ok-find.ensures.answer)
-    c.in-Clash.is in
-    let same : c.in_ok-state-in-Clash.state
-    ≡ c.find.new.scratch.state = c.in_ok-state-in-Clash.ensures ∙ c.state.ensures in (
-      with_action c.args.query.now a,
-      first_at (λ q. LivePass c.args.case.now.diagrams.now c.args.case.now.task.now q
-          c.args.case.now.budget)
-          (is_clash c.args.case.now.task.now (in_node c.args.case.now.diagrams.now)) (atoms
-          c.args.case.now.task.now)
-          c.args.query.now c.args.actions.now c.loop-action.action-index a
-          c.loop-action.invariant.settled
-          (slice_get-get_or c.args.actions.now c.loop-action.action-index None
-          c.loop-action-test.true),
-      found.0,
-      (
-        refl,
-        (
-          c.find.new.scratch.state,
-          ap Some same,
-          found.1,
-          found.2,
-        ),
-      ),
-    )
-
-pub loop-action-preserved : goal.loop-action-preserved
-loop-action-preserved c =
-    let a : Option ℕ = get_or c.args.actions.now c.loop-action.action-index None in
-    record {
-      list = ap (λ (i : NodeTask). i.list) c.find.ensures.same ∙ c.loop-action.invariant.list;
-      task = ap (λ (i : NodeTask). i.task) c.find.ensures.same ∙ c.loop-action.invariant.task;
-      lengths = lengths_kept c.args.scratch.now c.loop-action.scratch c.find.new.scratch
-          c.loop-action.invariant.lengths c.find.ensures.lengths;
-      positive = c.loop-action.invariant.positive;
-      negative = c.loop-action.invariant.negative;
-      settled =
-          settled_more (λ q. LivePass c.args.case.now.diagrams.now c.args.case.now.task.now q
-          c.args.case.now.budget)
-          (is_clash c.args.case.now.task.now (in_node c.args.case.now.diagrams.now)) (atoms
-          c.args.case.now.task.now)
-          c.args.query.now c.args.actions.now c.loop-action.action-index a
-          c.loop-action.invariant.settled
-          (slice_get-get_or c.args.actions.now c.loop-action.action-index None
-          c.loop-action-test.true)
-          (settled_here (λ q. LivePass c.args.case.now.diagrams.now c.args.case.now.task.now q
-          c.args.case.now.budget)
-          (is_clash c.args.case.now.task.now (in_node c.args.case.now.diagrams.now)) (atoms
-          c.args.case.now.task.now)
-          (with_action c.loop-action.query a) (with_action c.args.query.now a)
-          (same_query c.args.query.now c.loop-action.query a c.loop-action.invariant.positive
-          c.loop-action.invariant.negative)
-          c.find.new.scratch.state c.in_ok-find.field-0
-          (answer_here (with_action c.loop-action.query a) c.args.case.now.budget
-          c.in_ok-find.field-0 c.find.new.scratch.state c.loop-action.inquiry
-          c.args.case.now.diagrams.now c.args.case.now.task.now c.loop-action.invariant.list
-          c.loop-action.invariant.task c.in_ok-find.ensures.answer)
-          c.in-Empty.is);
-    }
+pub find_all-requires : goal.find_all-requires
+find_all-requires c = record {
+  ready =
+      subst (λ (list : NodeList). AreAllReady (node_count list)
+      (length c.new-inquiry.result.task.actions) c.args.query.now c.args.actions.now)
+      (sym c.new-inquiry.ensures.list)
+      (subst (λ (task : Strips). AreAllReady (node_count c.args.case.now.diagrams.now)
+      (length task.actions) c.args.query.now c.args.actions.now)
+      (sym c.new-inquiry.ensures.task) c.requires.ready);
+}
 
 pub returns-clause-answer : goal.returns-clause-answer
 returns-clause-answer c =
-    all_settled (λ q. LivePass c.args.case.now.diagrams.now c.args.case.now.task.now q
-    c.args.case.now.budget)
-    (is_clash c.args.case.now.task.now (in_node c.args.case.now.diagrams.now)) (atoms
-    c.args.case.now.task.now)
-    c.args.query.now c.args.actions.now c.loop-action.action-index c.loop-action-test.false
-    c.loop-action.invariant.settled
+    subst (λ (list : NodeList). IfOk c.find_all.result (IsDecided
+    (λ q. LivePass list c.args.case.now.task.now q c.args.case.now.budget)
+    (is_clash c.args.case.now.task.now (in_node list)) (atoms c.args.case.now.task.now)
+    (map (with_action c.args.query.now) c.args.actions.now))) c.new-inquiry.ensures.list
+    (subst (λ (task : Strips). IfOk c.find_all.result (IsDecided
+    (λ q. LivePass c.new-inquiry.result.list task q c.args.case.now.budget)
+    (is_clash task (in_node c.new-inquiry.result.list)) (atoms task)
+    (map (with_action c.args.query.now) c.args.actions.now))) c.new-inquiry.ensures.task
+    c.find_all.ensures.answer)

@@ -1,7 +1,8 @@
-use Rattle.std.proofs.Common.{◌≡◌, ◌∙◌, ℕ, Option, Some, None, ap, get_or, refl, subst, sym}
+use Rattle.std.proofs.Common.{ℕ, Option, Some, None, ap, get_or, map, refl, subst, sym}
 use Rattle.std.proofs.lemmas.Option.{slice_get-get_or}
 use Rattle.hv_task.specs.Strips.{atoms}
 use Rattle.hv_sets.specs.Query.{IsReady, is_clash}
+use Rattle.hv_lines.specs.Verdicts.{IsDecided}
 use Rattle.hv_basic.specs.Working.Asked.{with_action}
 use Rattle.hv_basic.proofs.Walking.{all_settled, clash_here, first_at, lengths_kept, over_here}
 use Rattle.hv_basic.proofs.Walking.{same_query, settled_here, settled_more}
@@ -57,8 +58,11 @@ returns-in-Clash-clause-answer g c =
     (same_query c.args.query.now c.loop-action.query a c.loop-action.invariant.positive
     c.loop-action.invariant.negative)
     c.find.new.scratch.state c.in_ok-find.field-0 c.in_ok-find.ensures.answer c.in-Clash.is in
-    let same : c.in_ok-state-in-Clash.state
-    ≡ c.find.new.scratch.state = c.in_ok-state-in-Clash.ensures ∙ c.state.ensures in (
+    subst (IsDecided (λ q. g.F.Family.passes c.args.sets.now c.args.case.now.task.now q
+    c.args.case.now.budget)
+    (is_clash c.args.case.now.task.now (g.F.Family.has c.args.sets.now))
+    (atoms c.args.case.now.task.now) (map (with_action c.args.query.now) c.args.actions.now))
+    (sym c.in_ok-verdict-in-Clash.ensures) (
       with_action c.args.query.now a,
       first_at (λ q. g.F.Family.passes c.args.sets.now c.args.case.now.task.now q
           c.args.case.now.budget)
@@ -73,7 +77,7 @@ returns-in-Clash-clause-answer g c =
         refl,
         (
           c.find.new.scratch.state,
-          ap Some same,
+          ap Some c.state.ensures,
           found.1,
           found.2,
         ),

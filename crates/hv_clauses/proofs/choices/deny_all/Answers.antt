@@ -1,4 +1,4 @@
-use Rattle.std.proofs.Common.{◌<◌, ◌%◌, false, subst, sym}
+use Rattle.std.proofs.Common.{◌<◌, ◌%◌, ◌∙◌, false, ap, length, subst, sym}
 use Rattle.hv_clauses.specs.Working.Posed.{formulas}
 use Rattle.hv_propagation.specs.Trail.{marks_of}
 use Rattle.hv_clauses.proofs.Deciding.{digit_below, some_here}
@@ -59,3 +59,10 @@ loop-operand-preserved g c =
 pub returns-then-not-deny_clause-clause-grown : goal.returns-then-not-deny_clause-clause-grown
 returns-then-not-deny_clause-clause-grown g c = grows_then _ _ _ c.loop-operand.invariant.grown
     c.if-not-deny_clause.ensures.grown
+
+pub deny_clause-requires-clause-size : goal.deny_clause-requires-clause-size
+deny_clause-requires-clause-size g c =
+    ap length c.loop-operand.invariant.grown.roots ∙ c.requires.size
+
+pub returns-clause-grown : goal.returns-clause-grown
+returns-clause-grown g c = c.loop-operand.invariant.grown

@@ -1,4 +1,5 @@
-use Rattle.std.proofs.Common.{◌≡◌, ℕ, ◌<◌, ◌∙◌, true, List, Some, ap, arith, get_or, subst, sym}
+use Rattle.std.proofs.Common.{◌≡◌, ℕ, zero, suc, ◌<◌, ◌∙◌, Bool, true, List, Some, [], ◌∷◌, ap, arith}
+use Rattle.std.proofs.Common.{get_or, refl, subst, sym}
 use Rattle.std.specs.List.{slice_get}
 use Rattle.std.proofs.lemmas.Option.{get_or_from_slice_get, slice_get_within}
 use Rattle.hv_task.specs.State.{AreBelow}
@@ -7,7 +8,13 @@ use Rattle.hv_sets.specs.Cost.{clauses_of}
 use Rattle.hv_sets.specs.declared.literal.Literal.{Literal}
 use Rattle.hv_sets.specs.declared.operand.Which.{Which}
 use Rattle.hv_sets.specs.declared.operand.Which.TheVariants as W
+use Rattle.hv_sets.specs.Cubes.{SpeakBelow}
 use Rattle.hv_indexes.specs.Places.{clause_at}
+use Rattle.hv_propagation.specs.Effect.{late}
+use Rattle.hv_propagation.specs.Trail.{marks_of}
+use Rattle.hv_propagation.specs.Units.{AreFalse, IsConcluded}
+use Rattle.hv_propagation.proofs.Chasing.{grows_same}
+use Rattle.hv_propagation.proofs.Marked.{extends_same}
 use Rattle.hv_clauses.specs.Working.Operands.{clauses_in}
 use Rattle.hv_clauses.proofs.Deciding.{set_within}
 use Rattle.hv_clauses.proofs.OperandClauses.{made_goal, made_start, one_below}
@@ -78,3 +85,60 @@ returns-in-Goal-clause-denied g c =
 pub set-requires : goal.set-requires
 set-requires g c =
     set_within c.args.problem.now c.args.operand.which _ c.args.place c.in-Set.is c.requires.place
+
+pub deny-requires-in-Set : goal.deny-requires-in-Set
+deny-requires-in-Set g c =
+    let clause = c.get-in-Set.result.now in
+    let clauses = c.clauses-clauses.result.now in
+    let within = slice_get_within clauses c.args.place clause c.get-in-Set.ensures in
+    subst (λ n. SpeakBelow n clause) (c.set.ensures.atoms ∙ sym c.requires.size)
+    (subst (λ ls. SpeakBelow c.set.result.now.atoms ls)
+    (get_or_from_slice_get clauses c.args.place clause clause c.get-in-Set.ensures)
+    (c.clauses-clauses.ensures.below c.args.place clause within))
+
+pub returns-in-Set-clause-denied : goal.returns-in-Set-clause-denied
+returns-in-Set-clause-denied g c =
+    let p = c.args.problem.now in
+    let clause = c.get-in-Set.result.now in
+    let clauses = c.clauses-clauses.result.now in
+    denied_same _ _ _ _ _ clause _ c.seen-seen.ensures (
+    sym (get_or_from_slice_get clauses c.args.place clause [] c.get-in-Set.ensures)
+    ∙ (ap (λ cs. clause_at cs c.args.place)
+    (c.clauses-clauses.ensures.clauses ∙ c.set.ensures.clauses)
+    ∙ ap (λ w. clause_at (clauses_in p.task (formulas p) w) c.args.place) (sym c.in-Set.is))
+    ) c.deny-in-Set.ensures.denied
+
+-- the empty set has the clause without literals alone
+empty_at : (place : ℕ) → clause_at ([] ∷ []) place ≡ []
+empty_at zero = refl
+empty_at (suc place) = refl
+
+-- where nothing has to be denied, nothing is done
+denied_none : (P : List Bool → Type 0) (e m : List ℕ) (clause : List Literal) → clause ≡ []
+    → IsConcluded P (AreFalse e clause) m m true
+denied_none P e m clause none = record {
+  size = refl;
+  grows = extends_same m;
+  follows = λ state size holds agrees. agrees;
+  broken = λ is. absurd cc;
+  done = λ _. subst (λ c. AreFalse e c m) (sym none) (λ k d within. absurd (omega arith));
+}
+
+pub returns-in-Empty-clause-denied : goal.returns-in-Empty-clause-denied
+returns-in-Empty-clause-denied g c =
+    let p = c.args.problem.now in
+    denied_none _ (late p.effect c.args.operand.after) (marks_of c.args.marks.now) _
+    (ap (λ w. clause_at (clauses_in p.task (formulas p) w) c.args.place) c.in-Empty.is
+    ∙ empty_at c.args.place)
+
+pub returns-in-Empty-clause-grown : goal.returns-in-Empty-clause-grown
+returns-in-Empty-clause-grown g c = grows_same c.args.marks.now
+
+pub returns-in-Start-clause-grown : goal.returns-in-Start-clause-grown
+returns-in-Start-clause-grown g c = c.deny.ensures.grown
+
+pub returns-in-Goal-clause-grown : goal.returns-in-Goal-clause-grown
+returns-in-Goal-clause-grown g c = c.deny-in-Goal.ensures.grown
+
+pub returns-in-Set-clause-grown : goal.returns-in-Set-clause-grown
+returns-in-Set-clause-grown g c = c.deny-in-Set.ensures.grown

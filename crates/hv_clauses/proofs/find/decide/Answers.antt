@@ -18,3 +18,15 @@ returns-clause-same g c =
     (c.undo.ensures ∙ ap (λ n. let z : Knowledge = record
     { roots = c.try_choice-met.new.marks.roots; trail = take n c.try_choice-met.new.marks.trail }
     in z) c.len-point.ensures.len)
+
+pub is_refuted-requires : goal.is_refuted-requires
+is_refuted-requires g c = c.requires.number
+
+pub try_choice-met-requires-clause-rooted : goal.try_choice-met-requires-clause-rooted
+try_choice-met-requires-clause-rooted g c = c.requires.rooted
+
+pub returns-clause-met : goal.returns-clause-met
+returns-clause-met g c = c.try_choice-met.ensures.met
+
+pub returns-clause-state : goal.returns-clause-state
+returns-clause-state g c = c.try_choice-met.ensures.state

@@ -1,5 +1,6 @@
-use Rattle.std.proofs.Common.{◌∙◌, length, refl, sym, ap}
-use Rattle.hv_propagation.specs.Trail.{marks_of}
+use Rattle.std.proofs.Common.{◌∙◌, length, refl, sym, ap, subst}
+use Rattle.hv_propagation.specs.Trail.{Grows, Knowledge, marks_of}
+use Rattle.hv_propagation.proofs.Chasing.{grown_by}
 use Rattle.hv_propagation.proofs.Marked.{agrees_extends}
 use Rattle.hv_propagation.proofs.Trailed.{length-marks}
 use Rattle.hv_clauses.proofs.find.search_on.Goals as goal
@@ -29,3 +30,26 @@ choose-requires-clause-rooted g c =
       };
       left = c.if-not-close.ensures.left refl;
     }
+
+pub close-requires-clause-over : goal.close-requires-clause-over
+close-requires-clause-over g c = c.requires.begun.wide
+
+pub close-requires-clause-left : goal.close-requires-clause-left
+close-requires-clause-left g c = c.requires.begun.left
+
+pub returns-then-not-close-clause-grown : goal.returns-then-not-close-clause-grown
+returns-then-not-close-clause-grown g c = grown_by _ _ _ _ c.if-not-close.ensures.followed
+
+pub choose-requires-clause-means : goal.choose-requires-clause-means
+choose-requires-clause-means g c = c.requires.means
+
+pub returns-clause-met : goal.returns-clause-met
+returns-clause-met g c = c.choose.ensures.met
+
+pub returns-clause-grown : goal.returns-clause-grown
+returns-clause-grown g c =
+    subst (λ (k : Knowledge). Grows c.args.marks.now k) (sym c.choose.ensures.same)
+    (grown_by _ _ _ _ c.if-not-close.ensures.followed)
+
+pub returns-clause-state : goal.returns-clause-state
+returns-clause-state g c = c.choose.ensures.state

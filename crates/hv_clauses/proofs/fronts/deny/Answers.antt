@@ -1,4 +1,4 @@
-use Rattle.std.proofs.Common.{◌∙◌, length, refl, sym, ap, arith, subst}
+use Rattle.std.proofs.Common.{◌≡◌, ◌∙◌, true, false, length, refl, sym, ap, arith, subst}
 use Rattle.hv_clauses.specs.Working.Problem.{AreLeft}
 use Rattle.hv_propagation.specs.Trail.{marks_of}
 use Rattle.hv_propagation.proofs.Chasing.{grown_by, grows_then}
@@ -53,3 +53,22 @@ returns-clause-denied g c = λ is.
 pub returns-clause-grown : goal.returns-clause-grown
 returns-clause-grown g c = grows_then _ _ _ c.if-not-deny_clause.ensures.grown
     (grown_by _ _ _ _ c.close.ensures.followed)
+
+pub deny_clause-requires-clause-place : goal.deny_clause-requires-clause-place
+deny_clause-requires-clause-place g c = c.requires.digit
+
+pub deny_clause-requires-clause-size : goal.deny_clause-requires-clause-size
+deny_clause-requires-clause-size g c = c.requires.wide
+
+pub returns-then-not-deny_clause-clause-denied : goal.returns-then-not-deny_clause-clause-denied
+returns-then-not-deny_clause-clause-denied g c = λ yes.
+    let f : false ≡ true = yes in absurd cc
+
+pub returns-then-not-deny_clause-clause-left : goal.returns-then-not-deny_clause-clause-left
+returns-then-not-deny_clause-clause-left g c = λ yes. let f : false ≡ true = yes in absurd cc
+
+pub returns-then-not-deny_clause-clause-grown : goal.returns-then-not-deny_clause-clause-grown
+returns-then-not-deny_clause-clause-grown g c = c.if-not-deny_clause.ensures.grown
+
+pub returns-clause-left : goal.returns-clause-left
+returns-clause-left g c = c.close.ensures.left

@@ -2,7 +2,8 @@ use Rattle.std.proofs.Common.{◌≡◌, ◌<◌, ◌∙◌, ◌+◌, ◌-◌, �
 use Rattle.std.proofs.Common.{slice_get, sym, ap, ap₂, arith, subst}
 use Rattle.std.proofs.lemmas.Option.{slice_get-get_or}
 use Rattle.hv_sets.specs.declared.operand.Operand.{Operand}
-use Rattle.hv_clauses.specs.Working.Front.{AreRefuted, IsAdvanced, block_end, block_length}
+use Rattle.hv_clauses.specs.Working.Front.{AreRefuted, IsAdvanced, IsFront, block_end}
+use Rattle.hv_clauses.specs.Working.Front.{block_length}
 use Rattle.hv_clauses.specs.Working.Posed.{sizes}
 use Rattle.hv_clauses.proofs.Blocks.{below_end}
 use Rattle.hv_propagation.proofs.Chasing.{grows_same, grows_then}
@@ -138,3 +139,22 @@ returns-then-finish-clause-grown g c = grows_then _ _ _ c.loop-fixed.invariant.g
 
 pub returns-clause-grown : goal.returns-clause-grown
 returns-clause-grown g c = grows_then _ _ _ c.loop-fixed.invariant.grown c.if-finish.ensures.grown
+
+pub first_open-requires-clause-next : goal.first_open-requires-clause-next
+first_open-requires-clause-next g c = c.loop-fixed.invariant.advanced.below
+
+pub first_open-requires-clause-few : goal.first_open-requires-clause-few
+first_open-requires-clause-few g c = omega (arith, c.requires.cost, c.ranges.cost.fits)
+
+pub first_open-requires-clause-front : goal.first_open-requires-clause-front
+first_open-requires-clause-front g c =
+    let p = c.args.problem.now in
+    let count = length c.negative-negative.result.now in
+    subst (λ n. IsFront p n (c.loop-fixed.next / block_length p n) c.loop-fixed.marks)
+    (behind count c.loop-fixed.fixed c.loop-fixed-test.true) c.loop-fixed.invariant.advanced.front
+
+pub returns-then-finish-clause-state : goal.returns-then-finish-clause-state
+returns-then-finish-clause-state g c = c.if-finish.ensures.state
+
+pub returns-clause-state : goal.returns-clause-state
+returns-clause-state g c = c.if-finish.ensures.state

@@ -2,7 +2,8 @@ use Rattle.std.proofs.Common.{◌∙◌, ◌+◌, ◌<◌, ◌/◌, ◌%◌, ref
 use Rattle.std.proofs.lemmas.Nat.{mod_below}
 use Rattle.hv_clauses.specs.Working.Front.{IsFront}
 use Rattle.hv_clauses.specs.Working.Posed.{size_in, sizes}
-use Rattle.hv_propagation.specs.Trail.{Knowledge}
+use Rattle.hv_propagation.specs.Trail.{Grows, Knowledge}
+use Rattle.hv_propagation.proofs.Chasing.{grows_same}
 use Rattle.hv_clauses.proofs.Deciding.{named_some}
 use Rattle.hv_clauses.proofs.Digits.{count_some, held_within, open_advanced, open_count, open_few}
 use Rattle.hv_clauses.proofs.Digits.{open_front, open_held, open_less, open_more, open_part}
@@ -135,3 +136,28 @@ returns-clause-open g c =
     open_refuted p c.args.place c.args.next c.args.part _ c.args.operand c.requires.here
     c.requires.part c.count_of-count.ensures c.requires.next c.loop-rest.rest (omega arith)
     c.loop-rest.invariant.none
+
+pub fix-requires-clause-here : goal.fix-requires-clause-here
+fix-requires-clause-here g c = c.requires.here
+
+pub fix-requires-clause-some : goal.fix-requires-clause-some
+fix-requires-clause-some g c =
+    let p = c.args.problem.now in
+    subst (λ n. 0 < n) c.count_of-count.ensures
+    (open_count p c.args.place c.args.next c.args.part _ c.args.operand c.requires.here
+    c.requires.part c.count_of-count.ensures c.requires.next)
+
+pub returns-then-at-end-clause-grown : goal.returns-then-at-end-clause-grown
+returns-then-at-end-clause-grown g c =
+    subst (λ (k : Knowledge). Grows c.args.marks.now k) (sym c.loop-rest.invariant.same)
+    (grows_same c.args.marks.now)
+
+pub returns-then-fix-clause-grown : goal.returns-then-fix-clause-grown
+returns-then-fix-clause-grown g c =
+    subst (λ (k : Knowledge). Grows k c.fix.new.marks) c.loop-rest.invariant.same
+    c.if-fix.ensures.grown
+
+pub returns-clause-grown : goal.returns-clause-grown
+returns-clause-grown g c =
+    subst (λ (k : Knowledge). Grows c.args.marks.now k) (sym c.loop-rest.invariant.same)
+    (grows_same c.args.marks.now)

@@ -3,5 +3,5 @@ use Rattle.std.specs.List.{Contains}
 use Rattle.hv_explicit.proofs.results.has_no_other.Given as goal
 
 abbrev pub invariant-loop-atom : goal.invariant-loop-atom
-invariant-loop-atom l = (k d : ℕ) → k < l.atom-index → Contains l.list (get_or l.atoms k d) →
-    Contains l.others (get_or l.atoms k d)
+invariant-loop-atom l = (k : ℕ) → k < l.atom-index → Contains l.list (get_or l.atoms k 0)
+    → Contains l.others (get_or l.atoms k 0)

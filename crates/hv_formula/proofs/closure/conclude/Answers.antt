@@ -3,6 +3,7 @@ use Rattle.std.proofs.Common.{subst}
 use Rattle.hv_sets.specs.declared.literal.Literal.{Literal}
 use Rattle.hv_sets.specs.Truth.{in_clauses}
 use Rattle.hv_propagation.specs.Chase.{AreKept}
+use Rattle.hv_propagation.specs.Clauses.{AreClauses}
 use Rattle.hv_propagation.specs.Marks.{known, over, Agrees}
 use Rattle.hv_propagation.specs.Trail.{Knowledge, marks_of}
 use Rattle.hv_propagation.proofs.Chasing.{longer, kept_earlier}
@@ -67,3 +68,20 @@ returns-clause-never c = λ is state size holds.
     c.none-none.ensures state holds)
     (agrees_start clauses c.none-none.result k c.requires.none c.requires.unknown
     c.none-none.ensures state))
+
+pub start-requires : goal.start-requires
+start-requires c = c.requires.clauses
+
+pub close-requires-clause-over : goal.close-requires-clause-over
+close-requires-clause-over c = (
+  subst (λ n. AreClauses n c.args.bare.now.clauses.now)
+      (sym (ap length c.if-not-start.ensures.followed.roots)) c.requires.clauses,
+  c.requires.index,
+)
+
+pub returns-clause-settled : goal.returns-clause-settled
+returns-clause-settled c = c.close.ensures.settled
+
+pub returns-clause-size : goal.returns-clause-size
+returns-clause-size c =
+    ap length c.close.ensures.followed.roots ∙ ap length c.if-not-start.ensures.followed.roots

@@ -1,4 +1,4 @@
-use Rattle.std.proofs.Common.{◌≡◌, ◌∙◌, ◌++◌, [], sym, ap, subst}
+use Rattle.std.proofs.Common.{◌≡◌, ◌∙◌, ◌++◌, [], ap, false, sym, subst, true}
 use Rattle.hv_propagation.specs.declared.unit_rounds.RoundsEnd.{RoundsEnd}
 use Rattle.hv_propagation.specs.Forced.{AreForced}
 use Rattle.hv_propagation.specs.Trail.{marked}
@@ -21,3 +21,24 @@ returns-in-Settled-clause-forced c = λ _.
     (forced_around atoms clauses cube c.as_slice.ensures.rises
     (subst (IsAround atoms clauses) (sym same) c.in_ok-run.ensures.around)
     (subst (λ ls. AreSettled [] clauses (marked atoms ls)) (sym same) told))
+
+pub run-requires-clause-clauses : goal.run-requires-clause-clauses
+run-requires-clause-clauses c = c.requires.basis.clauses
+
+pub returns-in-Settled-clause-never : goal.returns-in-Settled-clause-never
+returns-in-Settled-clause-never c = λ is. absurd (let f : true ≡ false = is in cc)
+
+pub returns-in-Broken-clause-forced : goal.returns-in-Broken-clause-forced
+returns-in-Broken-clause-forced c = λ is. absurd (let f : false ≡ true = is in cc)
+
+pub force_in_rows-requires-clause-basis : goal.force_in_rows-requires-clause-basis
+force_in_rows-requires-clause-basis c = c.requires.basis
+
+pub force_in_rows-requires-clause-none : goal.force_in_rows-requires-clause-none
+force_in_rows-requires-clause-none c = c.requires.none
+
+pub returns-clause-forced : goal.returns-clause-forced
+returns-clause-forced c = c.force_in_rows.ensures.forced
+
+pub returns-clause-never : goal.returns-clause-never
+returns-clause-never c = c.force_in_rows.ensures.never

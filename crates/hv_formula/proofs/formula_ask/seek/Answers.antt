@@ -1,5 +1,5 @@
-use Rattle.std.proofs.Common.{refl, arith}
-use Rattle.hv_propagation.proofs.Chasing.{followed_then, longer}
+use Rattle.std.proofs.Common.{length, refl, arith, subst, sym}
+use Rattle.hv_propagation.proofs.Chasing.{followed_none, followed_then, longer}
 use Rattle.hv_formula.proofs.formula_ask.seek.Goals as goal
 
 pub returns-then-not-visit-clause-followed : goal.returns-then-not-visit-clause-followed
@@ -20,3 +20,37 @@ loop-place-preserved g c =
       within = omega arith;
       left = c.if-not-visit.ensures.left refl;
     }
+
+pub loop-place-init : goal.loop-place-init
+loop-place-init g c = record {
+  followed = followed_none (g.C.Constraint.admits c.args.constraint.now) c.args.marks.now;
+  within = c.requires.from;
+  left = c.requires.left;
+}
+
+pub returns-then-is_some-clause-followed : goal.returns-then-is_some-clause-followed
+returns-then-is_some-clause-followed g c = c.loop-place.invariant.followed
+
+pub returns-then-is_some-clause-left : goal.returns-then-is_some-clause-left
+returns-then-is_some-clause-left g c =
+    (c.loop-place.invariant.within, c.loop-place.invariant.left)
+
+pub visit-requires-clause-over : goal.visit-requires-clause-over
+visit-requires-clause-over g c =
+    subst (λ roots. g.C.Constraint.is_over c.args.constraint.now (length roots))
+    (sym c.loop-place.invariant.followed.roots) c.requires.over
+
+pub visit-requires-clause-from : goal.visit-requires-clause-from
+visit-requires-clause-from g c =
+    let less = c.loop-place-test.true in
+    let size = c.len.ensures.len in
+    omega (arith, less, size)
+
+pub visit-requires-clause-left : goal.visit-requires-clause-left
+visit-requires-clause-left g c = c.loop-place.invariant.left
+
+pub returns-clause-followed : goal.returns-clause-followed
+returns-clause-followed g c = c.loop-place.invariant.followed
+
+pub returns-clause-left : goal.returns-clause-left
+returns-clause-left g c = (c.loop-place.invariant.within, c.loop-place.invariant.left)

@@ -1,4 +1,5 @@
-use Rattle.std.proofs.Common.{◌∙◌, [], length, sym, ap, arith, subst}
+use Rattle.std.proofs.Common.{◌∙◌, [], length, sym, ap, arith, refl, subst}
+use Rattle.hv_sets.specs.Cubes.{SpeakBelow}
 use Rattle.hv_propagation.specs.Clauses.{AreClauses}
 use Rattle.hv_formula.specs.Kinded.{CompletesClauses}
 use Rattle.hv_propagation.proofs.Chasing.{kept_grown, kept_settled}
@@ -14,6 +15,21 @@ returns-then-not-force_all-clause-meets g c =
     (forced_cube c.none-none.result c.args.cube.now _ _ _ c.none-none.ensures
     c.if-not-force_all.ensures.forced) c.args.state.now
 
+pub force_all-requires : goal.force_all-requires
+force_all-requires g c =
+    subst (λ n. SpeakBelow n c.args.cube.now) (sym c.requires.marks) c.requires.cube
+
+pub returns-then-not-force_all-clause-state : goal.returns-then-not-force_all-clause-state
+returns-then-not-force_all-clause-state g c = refl
+
+pub close-requires-clause-over : goal.close-requires-clause-over
+close-requires-clause-over g c = (
+  subst (λ n. AreClauses n c.args.bare.now.clauses.now)
+      (sym (ap length c.if-not-force_all.ensures.grown.roots ∙ c.requires.marks))
+      c.requires.clauses,
+  c.requires.index,
+)
+
 pub close-requires-clause-left : goal.close-requires-clause-left
 close-requires-clause-left g c =
     kept_grown [] c.args.bare.now.clauses.now c.args.marks.now c.force_all.new.marks 0
@@ -28,6 +44,26 @@ returns-then-not-close-clause-meets g c =
     c.if-not-force_all.ensures.forced)
     c.if-not-force_all.ensures.grown.roots c.close.new.marks c.if-not-close.ensures.followed
     c.args.state.now
+
+pub returns-then-not-close-clause-state : goal.returns-then-not-close-clause-state
+returns-then-not-close-clause-state g c = refl
+
+pub complete-requires-clause-over : goal.complete-requires-clause-over
+complete-requires-clause-over g c = (
+  subst (λ n. AreClauses n c.args.bare.now.clauses.now)
+      (sym (ap length c.if-not-close.ensures.followed.roots
+      ∙ (ap length c.if-not-force_all.ensures.grown.roots ∙ c.requires.marks)))
+      c.requires.clauses,
+  c.requires.index,
+)
+
+pub complete-requires-clause-state : goal.complete-requires-clause-state
+complete-requires-clause-state g c =
+    sym (ap length c.if-not-close.ensures.followed.roots
+    ∙ (ap length c.if-not-force_all.ensures.grown.roots ∙ c.requires.marks))
+
+pub complete-requires-clause-left : goal.complete-requires-clause-left
+complete-requires-clause-left g c = c.if-not-close.ensures.left refl
 
 pub complete-requires-clause-completes : goal.complete-requires-clause-completes
 complete-requires-clause-completes g c =
@@ -49,3 +85,6 @@ returns-clause-meets g c =
     c.if-not-force_all.ensures.grown.roots c.close.new.marks c.requires.cube
     c.if-not-close.ensures.followed
     c.complete.new.state c.complete.ensures.state c.complete.result c.complete.ensures.completed
+
+pub returns-clause-state : goal.returns-clause-state
+returns-clause-state g c = c.complete.ensures.state

@@ -3,9 +3,17 @@ use Rattle.std.proofs.Common.{sym, subst}
 use Rattle.std.proofs.lemmas.Bool.{cases_lt}
 use Rattle.std.proofs.lemmas.List.{get_or_append_left, get_or_push, length-append}
 use Rattle.std.proofs.lemmas.Option.{get_or_from_slice_get}
+use Rattle.hv_sets.specs.Cubes.{SpeakBelow}
 use Rattle.hv_indexes.specs.Places.{clause_at}
 use Rattle.hv_indexes.specs.Working.Pairs.{IsEntryPair}
 use Rattle.hv_indexes.proofs.partners.pairs_of.Goals as goal
+
+pub entries_in-requires : goal.entries_in-requires
+entries_in-requires c =
+    subst (SpeakBelow _)
+    (get_or_from_slice_get c.args.clauses.now c.loop-place.place c.get.result.now [] c.get.ensures)
+    (c.requires c.loop-place.place []
+    (omega (arith, c.loop-place-test.true, c.after_last_pair-upto.ensures)))
 
 pub loop-place-preserved : goal.loop-place-preserved
 loop-place-preserved c =
@@ -36,3 +44,6 @@ loop-place-preserved c =
             (subst (λ j. IsEntryPair (clause_at clauses j) pair) at here)
       ];
     }
+
+pub returns : goal.returns
+returns c = c.loop-place.invariant.are

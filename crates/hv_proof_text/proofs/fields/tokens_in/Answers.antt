@@ -1,8 +1,21 @@
-use Rattle.std.proofs.Common.{◌++◌, ap, arith}
+use Rattle.std.proofs.Common.{◌≡◌, ◌++◌, Ok, Err, ap, arith}
+use Rattle.std.specs.Prelude.{IsErrAnd, Result}
 use Rattle.hv_proof_text.specs.Working.Gathering.{fields_behind}
 use Rattle.hv_proof_text.proofs.Gathered.{gathers_no_token, gathers_too_many}
 use Rattle.hv_proof_text.proofs.Gathered.{gathers_tokens}
 use Rattle.hv_proof_text.proofs.fields.tokens_in.Goals as goal
+
+-- where there is a fault there is no value
+never_ok : {A E : Type 0} (r : Result A E) (Q : E → Type 0) (a : A) (P : Type 0) → IsErrAnd r Q
+    → r ≡ Ok a → P
+never_ok (Ok b) Q a P is same = absurd is
+never_ok (Err e) Q a P is same = absurd cc
+
+pub returns-in_err-push-clause-some : goal.returns-in_err-push-clause-some
+returns-in_err-push-clause-some c = never_ok _ _ _ _ c.from_residual.ensures.1
+
+pub returns-in_err-push-clause-none : goal.returns-in_err-push-clause-none
+returns-in_err-push-clause-none c = never_ok _ _ _ _ c.from_residual.ensures.1
 
 pub returns-in_default-clause-some : goal.returns-in_default-clause-some
 returns-in_default-clause-some c = λ _.

@@ -6,8 +6,28 @@ use Rattle.hv_propagation.specs.Working.Scan.{Scans}
 use Rattle.hv_propagation.specs.Marks.{over}
 use Rattle.hv_propagation.specs.Trail.{Knowledge, marks_of}
 use Rattle.hv_propagation.specs.Units.{IsSettled}
-use Rattle.hv_propagation.proofs.Chasing.{broken_followed, step_followed, step_settled}
+use Rattle.hv_propagation.proofs.Chasing.{broken_followed, followed_none, step_followed}
+use Rattle.hv_propagation.proofs.Chasing.{step_settled}
 use Rattle.hv_propagation.proofs.chase.step.Goals as goal
+
+pub returns-in-Settled-clause-followed : goal.returns-in-Settled-clause-followed
+returns-in-Settled-clause-followed c =
+    let m = c.args.marks.now in
+    subst (λ (k : Knowledge). IsFollowed (λ s. in_clause c.args.clause.now
+    (over c.args.effect.now s) ≡ true) m k true) (sym c.remember.ensures)
+    (followed_none (λ s. in_clause c.args.clause.now (over c.args.effect.now s) ≡ true) m)
+
+pub returns-in-Settled-clause-settled : goal.returns-in-Settled-clause-settled
+returns-in-Settled-clause-settled c = λ _.
+    let e = c.args.effect.now in
+    let m = c.args.marks.now in
+    let clause = c.args.clause.now in
+    subst (λ (k : Knowledge). IsSettled e (marks_of k) clause) (sym c.remember.ensures)
+    (subst (λ (s : Scan). Scans s e (marks_of m) clause) c.in-Settled.is
+    c.scan_clause-found.ensures)
+
+pub returns-in-Broken-clause-settled : goal.returns-in-Broken-clause-settled
+returns-in-Broken-clause-settled c = λ is. absurd (let f : false ≡ true = is in cc)
 
 pub returns-in-Broken-clause-followed : goal.returns-in-Broken-clause-followed
 returns-in-Broken-clause-followed c =

@@ -8,7 +8,7 @@ use Rattle.hv_indexes.specs.Places.{clause_at}
 use Rattle.hv_propagation.specs.Clauses.{AreClauses}
 use Rattle.hv_propagation.specs.Marks.{over}
 use Rattle.hv_propagation.specs.Trail.{marks_of}
-use Rattle.hv_propagation.proofs.Chasing.{followed_then, kept_on, longer}
+use Rattle.hv_propagation.proofs.Chasing.{followed_none, followed_then, kept_on, longer}
 use Rattle.hv_propagation.proofs.Marked.{value_extends}
 use Rattle.hv_propagation.proofs.chase.visit_all.Goals as goal
 
@@ -67,3 +67,37 @@ returns-clause-kept c = λ is place has.
     (length c.args.marks.now.trail))
     (get_or_default c.args.standing.now.places.now has.0 0 place within ∙ has.2)
     (c.loop-index.invariant.seen has.0 (omega arith) within)
+
+pub visit_in_runs-requires-clause-clauses : goal.visit_in_runs-requires-clause-clauses
+visit_in_runs-requires-clause-clauses c = c.requires.clauses
+
+pub visit_in_runs-requires-clause-standing : goal.visit_in_runs-requires-clause-standing
+visit_in_runs-requires-clause-standing c = c.requires.standing
+
+pub visit_in_runs-requires-clause-out : goal.visit_in_runs-requires-clause-out
+visit_in_runs-requires-clause-out c = c.requires.out
+
+pub returns-then-says_nothing-clause-followed : goal.returns-then-says_nothing-clause-followed
+returns-then-says_nothing-clause-followed c = c.visit_in_runs.ensures.followed
+
+pub returns-then-says_nothing-clause-kept : goal.returns-then-says_nothing-clause-kept
+returns-then-says_nothing-clause-kept c = c.visit_in_runs.ensures.kept
+
+pub loop-index-init : goal.loop-index-init
+loop-index-init c = record {
+  followed = followed_none (λ s. in_clauses c.args.clauses.now (over c.args.effect.now s) ≡ true)
+      c.args.marks.now;
+  seen = λ k less. absurd (omega (arith, less));
+}
+
+pub visit_one-requires-clause-standing : goal.visit_one-requires-clause-standing
+visit_one-requires-clause-standing c = c.requires.standing
+
+pub visit_one-requires-clause-index : goal.visit_one-requires-clause-index
+visit_one-requires-clause-index c = c.loop-index-test.true
+
+pub returns-then-not-visit_one-clause-kept : goal.returns-then-not-visit_one-clause-kept
+returns-then-not-visit_one-clause-kept c = λ is. absurd (let f : false ≡ true = is in cc)
+
+pub returns-clause-followed : goal.returns-clause-followed
+returns-clause-followed c = c.loop-index.invariant.followed

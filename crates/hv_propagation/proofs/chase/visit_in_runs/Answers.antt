@@ -11,7 +11,7 @@ use Rattle.hv_propagation.specs.Chase.{IsFollowed, IsKept}
 use Rattle.hv_propagation.specs.Marks.{known, over}
 use Rattle.hv_propagation.specs.Trail.{Knowledge, marks_of}
 use Rattle.hv_propagation.specs.Working.FoundRun.{AreKnownEntries}
-use Rattle.hv_propagation.proofs.Chasing.{followed_then, kept_on, longer}
+use Rattle.hv_propagation.proofs.Chasing.{followed_none, followed_then, kept_on, longer}
 use Rattle.hv_propagation.proofs.FoundRuns.{entry_settled}
 use Rattle.hv_propagation.proofs.chase.visit_in_runs.Goals as goal
 
@@ -124,3 +124,19 @@ returns-clause-kept c = λ is place has.
     (length c.args.marks.now.trail))
     (get_or_default c.args.standing.now.places.now has.0 0 place within ∙ has.2)
     (c.loop-index.invariant.seen has.0 (omega arith) within)
+
+pub loop-index-init : goal.loop-index-init
+loop-index-init c = record {
+  followed = followed_none (λ s. in_clauses c.args.clauses.now (over c.args.effect.now s) ≡ true)
+      c.args.marks.now;
+  seen = λ k less. absurd (omega (arith, less));
+}
+
+pub returns-then-not-run-clause-kept : goal.returns-then-not-run-clause-kept
+returns-then-not-run-clause-kept c = λ is. absurd (let f : false ≡ true = is in cc)
+
+pub returns-then-not-visit_one-clause-kept : goal.returns-then-not-visit_one-clause-kept
+returns-then-not-visit_one-clause-kept c = λ is. absurd (let f : false ≡ true = is in cc)
+
+pub returns-clause-followed : goal.returns-clause-followed
+returns-clause-followed c = c.loop-index.invariant.followed

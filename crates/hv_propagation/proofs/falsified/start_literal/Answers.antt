@@ -1,13 +1,14 @@
-use Rattle.std.proofs.Common.{◌≡◌, ◌<◌, [], Some, false, length, get_or, sym, arith, subst}
+use Rattle.std.proofs.Common.{◌≡◌, ◌<◌, [], Some, false, length, get_or, sym, arith, subst, true}
 use Rattle.std.proofs.lemmas.List.Elements.{All-contains, Contains-get_or}
 use Rattle.hv_sets.specs.declared.literal.Literal.{Literal}
+use Rattle.hv_sets.specs.Truth.{in_clauses}
 use Rattle.hv_indexes.specs.Places.{clause_at}
-use Rattle.hv_propagation.specs.Marks.{known}
+use Rattle.hv_propagation.specs.Marks.{known, over}
 use Rattle.hv_indexes.specs.Signed.{StandsAs}
 use Rattle.hv_propagation.specs.Trail.{marked, marks_of}
 use Rattle.hv_propagation.specs.Units.{value_of}
 use Rattle.hv_propagation.proofs.PartnerEntries.{kept_sooner}
-use Rattle.hv_propagation.proofs.Chasing.{longer}
+use Rattle.hv_propagation.proofs.Chasing.{followed_none, longer}
 use Rattle.hv_propagation.proofs.Untouched.{followed_forced, value_made}
 use Rattle.hv_propagation.proofs.falsified.start_literal.Goals as goal
 
@@ -63,3 +64,20 @@ returns-clause-kept c = λ is value made sign place stands.
     (c.visit_all.ensures.kept is place ((are.row.has place).1
     (subst (λ (l : Literal). StandsAs l.positive clauses l.atom place)
     (sym c.standing-standing.ensures.literal) stands)))
+
+pub returns-then-not-is_made_false-clause-followed : goal.returns-then-not-is_made_false-clause-followed
+returns-then-not-is_made_false-clause-followed c =
+    followed_none (λ s. in_clauses c.args.clauses.now (over c.args.effect.now s) ≡ true)
+    c.args.marks.now
+
+pub is_forced-requires-clause-rises : goal.is_forced-requires-clause-rises
+is_forced-requires-clause-rises c = c.requires.forced.rises
+
+pub returns-then-is_forced-clause-kept : goal.returns-then-is_forced-clause-kept
+returns-then-is_forced-clause-kept c = λ is. absurd (let f : false ≡ true = is in cc)
+
+pub visit_all-requires-clause-clauses : goal.visit_all-requires-clause-clauses
+visit_all-requires-clause-clauses c = c.requires.clauses
+
+pub returns-clause-followed : goal.returns-clause-followed
+returns-clause-followed c = c.visit_all.ensures.followed

@@ -1,11 +1,36 @@
 use Rattle.std.proofs.Common.{◌∙◌, true, false, length, sym, ap, arith, refl, subst}
 use Rattle.hv_propagation.specs.Completion.{Completes, IsTried}
+use Rattle.hv_propagation.proofs.Chasing.{grows_same}
 use Rattle.hv_propagation.specs.Marks.{AllKnown}
 use Rattle.hv_propagation.specs.Trail.{marks_of}
 use Rattle.hv_propagation.proofs.Completing.{completed_filled, completed_tried}
 use Rattle.hv_propagation.proofs.Marked.{length-filled}
 use Rattle.hv_propagation.proofs.Trailed.{length-marks}
 use Rattle.hv_propagation.proofs.propagation.complete.Goals as goal
+
+pub fill-requires : goal.fill-requires
+fill-requires g c = c.requires.state
+
+pub settle_all-requires-clause-over : goal.settle_all-requires-clause-over
+settle_all-requires-clause-over g c = c.requires.over
+
+pub settle_all-requires-clause-left : goal.settle_all-requires-clause-left
+settle_all-requires-clause-left g c = c.requires.left
+
+pub settle_all-requires-clause-completes : goal.settle_all-requires-clause-completes
+settle_all-requires-clause-completes g c =
+    subst (λ how. Completes how (g.C.Constraint.admits c.args.constraint.now)
+    (g.C.Constraint.settled c.args.constraint.now) (length c.args.marks.now.roots)) c.in-Try.is
+    c.requires.completes
+
+pub returns-then-not-settle_all-clause-grown : goal.returns-then-not-settle_all-clause-grown
+returns-then-not-settle_all-clause-grown g c = c.if-not-settle_all.ensures.grown
+
+pub returns-in-Fill-clause-grown : goal.returns-in-Fill-clause-grown
+returns-in-Fill-clause-grown g c = grows_same c.args.marks.now
+
+pub returns-else-not-settle_all-clause-grown : goal.returns-else-not-settle_all-clause-grown
+returns-else-not-settle_all-clause-grown g c = c.if-not-settle_all.ensures.grown
 
 pub returns-in-Fill-clause-completed : goal.returns-in-Fill-clause-completed
 returns-in-Fill-clause-completed g c =

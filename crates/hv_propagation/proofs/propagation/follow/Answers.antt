@@ -1,9 +1,48 @@
-use Rattle.std.proofs.Common.{◌≡◌, ◌≤◌, ◌∙◌, Option, Some, refl, subst, sym, arith}
+use Rattle.std.proofs.Common.{◌≡◌, ◌≤◌, ◌∙◌, Option, Some, length, refl, subst, sym, arith}
 use Rattle.std.specs.Prelude.{MatchOption}
 use Rattle.hv_propagation.specs.declared.propagation.Bound.{Bound}
 use Rattle.hv_propagation.specs.declared.propagation.Bound.TheVariants as Bounds
-use Rattle.hv_propagation.proofs.Chasing.{followed_then, longer}
+use Rattle.hv_propagation.proofs.Chasing.{followed_none, followed_then, longer}
 use Rattle.hv_propagation.proofs.propagation.follow.Goals as goal
+
+pub loop-place-init : goal.loop-place-init
+loop-place-init g c = record {
+  followed = followed_none (g.C.Constraint.admits c.args.constraint.now) c.args.marks.now;
+  within = c.requires.from;
+  left = c.requires.left;
+  end = λ is. is;
+  place = λ upto is. is;
+}
+
+pub past-requires-clause-over : goal.past-requires-clause-over
+past-requires-clause-over g c = (length c.args.marks.now.roots, c.requires.over)
+
+pub past-requires-clause-place : goal.past-requires-clause-place
+past-requires-clause-place g c =
+    let less = c.loop-place-test.true in
+    let size = c.len.ensures.len in
+    omega (arith, less, size)
+
+pub returns-in_default-clause-followed : goal.returns-in_default-clause-followed
+returns-in_default-clause-followed g c = c.loop-place.invariant.followed
+
+pub returns-in_default-clause-left : goal.returns-in_default-clause-left
+returns-in_default-clause-left g c =
+    (c.loop-place.invariant.within, c.loop-place.invariant.left)
+
+pub visit-requires-clause-over : goal.visit-requires-clause-over
+visit-requires-clause-over g c =
+    subst (λ roots. g.C.Constraint.is_over c.args.constraint.now (length roots))
+    (sym c.loop-place.invariant.followed.roots) c.requires.over
+
+pub visit-requires-clause-from : goal.visit-requires-clause-from
+visit-requires-clause-from g c =
+    let less = c.loop-place-test.true in
+    let size = c.len.ensures.len in
+    omega (arith, less, size)
+
+pub visit-requires-clause-left : goal.visit-requires-clause-left
+visit-requires-clause-left g c = c.loop-place.invariant.left
 
 pub returns-then-not-visit-clause-followed : goal.returns-then-not-visit-clause-followed
 returns-then-not-visit-clause-followed g c =
@@ -32,3 +71,9 @@ loop-place-preserved g c =
           (λ rest. rest ≡ c.loop-place.rest)) c.in-Some.is (c.past.ensures.place upto before)
           ∙ before;
     }
+
+pub returns-clause-followed : goal.returns-clause-followed
+returns-clause-followed g c = c.loop-place.invariant.followed
+
+pub returns-clause-left : goal.returns-clause-left
+returns-clause-left g c = (c.loop-place.invariant.within, c.loop-place.invariant.left)

@@ -7,6 +7,24 @@ use Rattle.hv_reach.proofs.Waiting.{keeps_empty, settled_pop}
 use Rattle.hv_reach.specs.Working.Waiting.{AreActionsSettled, AreActionsSettledBut}
 use Rattle.hv_reach.proofs.atom_search.close.Goals as goal
 
+pub wake-requires-clause-numbers : goal.wake-requires-clause-numbers
+wake-requires-clause-numbers c =
+    let i = c.loop-atom.invariant in
+    let size = c.requires.index.size in
+    let within : c.in-Some.atom < length c.args.rows.now.items =
+    let all = subst (λ q. AreBelow (length c.loop-atom.held) q) c.in-Some.ensures.items
+    i.kept.below in
+    let less = All-contains (λ k. k < length c.loop-atom.held)
+    (c.pop.new.self.items ++ c.in-Some.atom ∷ []) c.in-Some.atom all
+    (Contains-push c.pop.new.self.items c.in-Some.atom) in
+    let state = c.requires.state in
+    let same = i.size in
+    omega arith in
+    subst (AreBelow (length c.args.task.now.actions)) (sym c.as_slice.ensures.value)
+    (c.requires.index.below c.in-Some.atom c.index-row.result.now
+    (slice_get_at c.args.rows.now.items c.in-Some.atom c.index-row.result.now within
+    c.index-row.ensures))
+
 pub wake-requires-clause-settled : goal.wake-requires-clause-settled
 wake-requires-clause-settled c =
     let i = c.loop-atom.invariant in

@@ -1,11 +1,22 @@
 use Rattle.std.proofs.Common.{◌≡◌, ◌<◌, arith, get_or, length, sym, subst, true}
-use Rattle.hv_task.specs.State.{has_atom}
+use Rattle.hv_task.specs.State.{AreBelow, has_atom}
 use Rattle.hv_task.specs.Strips.{atoms}
 use Rattle.hv_reach.proofs.Sets.{slice_get_at}
 use Rattle.hv_reach.proofs.Waiting.{all_queued, kept_start, queue_below, settled_start}
 use Rattle.hv_reach.specs.Reached.{IsWithin}
 use Rattle.hv_reach.specs.Working.Waiting.{AreActionsSettledBut}
 use Rattle.hv_reach.proofs.atom_search.reach_from.Goals as goal
+
+pub wake-requires-clause-numbers : goal.wake-requires-clause-numbers
+wake-requires-clause-numbers c =
+    let n = atoms c.args.task.now in
+    let size = c.requires.index.size in
+    let less : n < length c.args.rows.now.items = omega arith in
+    subst (AreBelow (length c.args.task.now.actions)) (sym c.as_slice.ensures.value)
+    (c.requires.index.below n c.index-free.result.now
+    (slice_get_at c.args.rows.now.items n c.index-free.result.now less
+    (subst (λ m. c.index-free.result.now ≡ get_or c.args.rows.now.items m c.index-free.result.now)
+    c.atoms-2.ensures.atoms c.index-free.ensures)))
 
 pub wake-requires-clause-kept : goal.wake-requires-clause-kept
 wake-requires-clause-kept c =

@@ -1,4 +1,4 @@
-use Rattle.std.proofs.Common.{◌∙◌, ap, arith, subst, sym}
+use Rattle.std.proofs.Common.{◌∙◌, ap, subst, sym}
 use Rattle.hv_lines.specs.Drafts.{IsGoodTable}
 use Rattle.hv_lines.specs.Numbering.{expr_count, known_count}
 use Rattle.hv_reach.proofs.Writing.{block_good}
@@ -7,20 +7,18 @@ use Rattle.hv_reach.proofs.notes.write_block.Goals as goal
 pub push_all-requires-clause-good : goal.push_all-requires-clause-good
 push_all-requires-clause-good c =
     block_good c.args.task.now c.requires.task c.args.draft.now.lines
-    c.reserve-3.new.self.lines c.in_ok-block.block.items c.expr_count-set.result
+    c.take_room.new.draft.lines c.in_ok-block.block.items c.expr_count-set.result
     c.known_count-id.result c.args.clauses c.table.ensures.begins c.requires.good
-    (omega (arith, c.in_ok-reserve-3.ensures.few, c.in_ok-reserve-3.ensures.spare))
-    c.in_ok-reserve-3.ensures.lines (c.expr_count-set.ensures.count ∙ ap expr_count
-    c.table.ensures.lines) (c.known_count-id.ensures.count ∙ ap known_count
+    c.in_ok-take_room.ensures.few c.take_room.ensures.lines (c.expr_count-set.ensures.count
+    ∙ ap expr_count c.table.ensures.lines) (c.known_count-id.ensures.count ∙ ap known_count
     c.table-2.ensures.lines) c.in_ok-block.ensures c.requires.dead
 
 pub returns-clause-good : goal.returns-clause-good
 returns-clause-good c =
     subst (IsGoodTable c.args.task.now) (sym c.push_all.ensures.lines)
     (block_good c.args.task.now c.requires.task c.args.draft.now.lines
-    c.reserve-3.new.self.lines c.in_ok-block.block.items c.expr_count-set.result
+    c.take_room.new.draft.lines c.in_ok-block.block.items c.expr_count-set.result
     c.known_count-id.result c.args.clauses c.table.ensures.begins c.requires.good
-    (omega (arith, c.in_ok-reserve-3.ensures.few, c.in_ok-reserve-3.ensures.spare))
-    c.in_ok-reserve-3.ensures.lines (c.expr_count-set.ensures.count ∙ ap expr_count
-    c.table.ensures.lines) (c.known_count-id.ensures.count ∙ ap known_count
+    c.in_ok-take_room.ensures.few c.take_room.ensures.lines (c.expr_count-set.ensures.count
+    ∙ ap expr_count c.table.ensures.lines) (c.known_count-id.ensures.count ∙ ap known_count
     c.table-2.ensures.lines) c.in_ok-block.ensures c.requires.dead)

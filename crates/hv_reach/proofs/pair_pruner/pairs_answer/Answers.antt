@@ -6,7 +6,9 @@ use Rattle.hv_lines.specs.Numbering.{expr_count, known_count}
 use Rattle.hv_lines.specs.Working.Pruning.{IsOutcome}
 use Rattle.hv_lines.proofs.Outcomes.{none_told, outcome_told}
 use Rattle.hv_reach.specs.Pruners.{HoldsPairsOf, IsDenied, IsPairsBlock, PairsCover}
+use Rattle.hv_reach.specs.Reached.{has_pair}
 use Rattle.hv_reach.specs.Working.Pruners.{AreDiagonals}
+use Rattle.hv_reach.specs.Written.{pairs_formula}
 use Rattle.hv_reach.proofs.Described.{diagonals_over, diagonals_pushed}
 use Rattle.hv_reach.proofs.Found.{pairs_found_formula, pairs_found_holds, pairs_found_reason}
 use Rattle.hv_reach.proofs.Writing.{outcome_written, written_described}
@@ -20,47 +22,54 @@ returns-then-is_some-clause-outcome c =
     c.requires.good c.requires.fits
     c.in_ok-noted.noted (sym c.is_some.ensures ∙ c.if-is_some.true) c.in_ok-noted.ensures
 
-pub write_block-requires-clause-dead : goal.write_block-requires-clause-dead
-write_block-requires-clause-dead c =
+pub write_pairs-requires-clause-size : goal.write_pairs-requires-clause-size
+write_pairs-requires-clause-size c = rw c.in-Some.is at c.in_ok-pairs.ensures.size
+
+pub write_pairs-requires-clause-dead : goal.write_pairs-requires-clause-dead
+write_pairs-requires-clause-dead c =
     let task = c.args.task.now in
-    let state = c.args.state.now in
-    let size = rw c.in-Some.is at c.in_ok-pairs.ensures.size in
     let each = rw c.in-Some.is at c.in_ok-pairs.ensures.reached in
     let out = (rw c.in-Some.is at c.in_ok-pairs.ensures.some).0 refl in
-    (pairs_found_reason task c.in-Some.pairs state each c.in_ok-clauses-in-Some.clauses
-    c.atoms.result c.atoms.ensures.atoms c.in_ok-clauses-in-Some.ensures
+    (pairs_found_reason task c.in-Some.pairs c.args.state.now each
+    (pairs_formula (atoms task) (has_pair c.in-Some.pairs)) (atoms task) refl refl
     c.requires.few c.requires.state out).dead
+
+pub write_pairs-requires-clause-over : goal.write_pairs-requires-clause-over
+write_pairs-requires-clause-over c = λ k less.
+    let task = c.args.task.now in
+    let size = rw c.in-Some.is at c.in_ok-pairs.ensures.size in
+    diagonals_over task c.args.draft.now.lines c.args.kept.now.noted.notes.items
+    c.args.kept.now.reached.items
+    c.requires.described c.args.kept.now.noted.rows.rows c.requires.diagonals k less
+    ∙ sym size
 
 pub returns-in_ok-line-in-Some-clause-outcome : goal.returns-in_ok-line-in-Some-clause-outcome
 returns-in_ok-line-in-Some-clause-outcome c =
     let task = c.args.task.now in
     let state = c.args.state.now in
-    let size = rw c.in-Some.is at c.in_ok-pairs.ensures.size in
     let each = rw c.in-Some.is at c.in_ok-pairs.ensures.reached in
     let out = (rw c.in-Some.is at c.in_ok-pairs.ensures.some).0 refl in
     let lines = c.args.draft.now.lines in
     let notes = c.args.kept.now.noted.notes.items in
-    let clauses = c.in_ok-clauses-in-Some.clauses in
+    let clauses = pairs_formula (atoms task) (has_pair c.in-Some.pairs) in
     let none = none_told task lines notes state c.in_ok-noted.noted
     (sym c.is_some.ensures ∙ c.if-is_some.false)
     c.in_ok-noted.ensures in
     let wrote = c.in_ok-line-in-Some.ensures in
     subst (λ n. IsOutcome task (PairsCover task) (IsDenied (atoms task))
     (IsPairsBlock task state lines) state (Some n) notes c.args.draft.now
-    c.write_block.new.noted.notes.items c.write_block.new.draft) (sym wrote.line)
+    c.write_pairs.new.noted.notes.items c.write_pairs.new.draft) (sym wrote.line)
     (outcome_written task lines clauses (expr_count lines) (known_count lines)
     (subst (IsGoodTable task) wrote.lines wrote.good)
     (PairsCover task) state (pairs_found_reason task c.in-Some.pairs state each
-    c.in_ok-clauses-in-Some.clauses c.atoms.result c.atoms.ensures.atoms
-    c.in_ok-clauses-in-Some.ensures
-    c.requires.few c.requires.state out) (IsPairsBlock task state lines) notes c.requires.state
+    clauses (atoms task) refl refl c.requires.few c.requires.state out)
+    (IsPairsBlock task state lines) notes c.requires.state
     c.requires.fits (
       clauses,
-      pairs_found_formula task c.in-Some.pairs state each c.in_ok-clauses-in-Some.clauses
-          c.atoms.result c.atoms.ensures.atoms c.in_ok-clauses-in-Some.ensures,
+      pairs_found_formula task c.in-Some.pairs state each clauses (atoms task) refl refl,
       (refl, refl, refl),
     )
-    none c.args.draft.now c.write_block.new.draft c.write_block.new.noted.notes.items refl
+    none c.args.draft.now c.write_pairs.new.draft c.write_pairs.new.noted.notes.items refl
     wrote.lines wrote.notes)
 
 pub returns-in_ok-line-in-Some-clause-described : goal.returns-in_ok-line-in-Some-clause-described
@@ -69,36 +78,26 @@ returns-in_ok-line-in-Some-clause-described c =
     let state = c.args.state.now in
     let size = rw c.in-Some.is at c.in_ok-pairs.ensures.size in
     let each = rw c.in-Some.is at c.in_ok-pairs.ensures.reached in
-    let out = (rw c.in-Some.is at c.in_ok-pairs.ensures.some).0 refl in
     let lines = c.args.draft.now.lines in
-    let clauses = c.in_ok-clauses-in-Some.clauses in
+    let clauses = pairs_formula (atoms task) (has_pair c.in-Some.pairs) in
     let wrote = c.in_ok-line-in-Some.ensures in
     written_described task lines clauses (expr_count lines) (known_count lines)
     (subst (IsGoodTable task) wrote.lines wrote.good)
     HoldsPairsOf (PairsCover task) c.args.kept.now.noted.notes.items c.args.kept.now.reached.items
     c.in-Some.pairs c.requires.fits c.requires.described size
-    (pairs_found_holds task c.in-Some.pairs state each c.in_ok-clauses-in-Some.clauses
-    c.atoms.result c.atoms.ensures.atoms c.in_ok-clauses-in-Some.ensures)
-    c.write_block.new.draft.lines c.write_block.new.noted.notes.items c.push_reserved.new.self.items
+    (pairs_found_holds task c.in-Some.pairs state each clauses (atoms task) refl refl)
+    c.write_pairs.new.draft.lines c.write_pairs.new.noted.notes.items
+    c.push_reserved.new.self.items
     wrote.lines wrote.notes
     (c.push_reserved.ensures.items ∙ ap (λ (xs : List (List (List Bool))). xs ++ c.in-Some.pairs
     ∷ []) c.reserve.ensures.items)
 
-pub write_block-requires-clause-over : goal.write_block-requires-clause-over
-write_block-requires-clause-over c = λ k less.
-    let task = c.args.task.now in
-    let size = rw c.in-Some.is at c.in_ok-pairs.ensures.size in
-    diagonals_over task c.args.draft.now.lines c.args.kept.now.noted.notes.items
-    c.args.kept.now.reached.items
-    c.requires.described c.args.kept.now.noted.rows.rows c.requires.diagonals k less
-    ∙ sym (c.in_ok-row-in-Some.ensures.0 ∙ size)
-
 pub returns-in_ok-line-in-Some-clause-diagonals : goal.returns-in_ok-line-in-Some-clause-diagonals
 returns-in_ok-line-in-Some-clause-diagonals c =
-    let wrote = c.in_ok-line-in-Some.ensures in
-    subst (λ rs. AreDiagonals rs c.push_reserved.new.self.items) (sym wrote.rows)
-    (subst (AreDiagonals (c.args.kept.now.noted.rows.rows ++ c.in_ok-row-in-Some.row ∷ []))
+    let wrote = c.in_ok-line-in-Some.ensures.rows in
+    subst (λ rs. AreDiagonals rs c.push_reserved.new.self.items) (sym wrote.2)
+    (subst (AreDiagonals (c.args.kept.now.noted.rows.rows ++ wrote.0 ∷ []))
     (sym (c.push_reserved.ensures.items ∙ ap
     (λ (xs : List (List (List Bool))). xs ++ c.in-Some.pairs ∷ []) c.reserve.ensures.items))
     (diagonals_pushed c.args.kept.now.noted.rows.rows c.args.kept.now.reached.items
-    c.in_ok-row-in-Some.row c.in-Some.pairs c.requires.diagonals c.in_ok-row-in-Some.ensures))
+    wrote.0 c.in-Some.pairs c.requires.diagonals wrote.1))

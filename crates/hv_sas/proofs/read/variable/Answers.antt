@@ -1,5 +1,6 @@
 use Rattle.hv_grammar.proofs.Going.{done, filled_err, go, no_memory, start, stops}
 use Rattle.hv_sas.specs.Text as text
+use Rattle.hv_sas.proofs.Ranges.{values_push, variables_push}
 use Rattle.hv_sas.proofs.read.variable.Goals as goal
 
 pub returns-in_err-word_line-clause-reads : goal.returns-in_err-word_line-clause-reads
@@ -70,3 +71,13 @@ returns-clause-reads g c =
     c.in_ok-values.ensures.reads)
     c.in_ok-word_line-2.ensures)
     c.in_ok-word_line-2.ensures.can c.in_ok-push.ensures.ok
+
+pub returns-clause-used : goal.returns-clause-used
+returns-clause-used g c =
+    values_push c.args.variables.now _ _ c.args.used.now _ c.in_ok-push.ensures.ok c.requires.used
+    c.in_ok-values.ensures.count
+
+pub returns-clause-variables : goal.returns-clause-variables
+returns-clause-variables g c =
+    variables_push c.args.variables.now _ _ c.args.used.now _ c.in_ok-push.ensures.ok
+    c.requires.used c.in_ok-values.ensures.count c.in_ok-range.ensures.within c.requires.variables

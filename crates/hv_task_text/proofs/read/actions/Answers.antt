@@ -1,10 +1,10 @@
-use Rattle.std.proofs.Common.{◌-◌, ◌+◌, ◌∙◌, ap, arith}
-use Rattle.hv_grammar.proofs.Going.{filled_err}
+use Rattle.std.proofs.Common.{◌-◌, ◌+◌, ◌∙◌, ap, arith, refl}
+use Rattle.hv_grammar.proofs.Going.{done, filled_err}
 use Rattle.hv_grammar.proofs.Repeated.{turn}
 use Rattle.hv_grammar.specs.Parsers.{one_more}
 use Rattle.hv_task.specs.Strips.{Strips, atoms}
 use Rattle.hv_task_text.specs.TaskFile.{action}
-use Rattle.hv_task_text.proofs.Listed.{go_as, stops_as}
+use Rattle.hv_task_text.proofs.Listed.{go_as, stops_as, turned}
 use Rattle.hv_task_text.proofs.read.actions.Goals as goal
 
 pub loop-done-preserved : goal.loop-done-preserved
@@ -31,3 +31,9 @@ returns-in_err-one_action-clause-reads g c =
     (turn _ _ _ (c.args.count - c.loop-done.done)
     (c.args.count - (c.loop-done.done + 1)) _ _ i.goes (omega arith))
     c.in_err-one_action.ensures.reads (filled_err _ _ _ c.from_residual.ensures.1)
+
+pub returns-clause-reads : goal.returns-clause-reads
+returns-clause-reads g c =
+    let i = c.loop-done.invariant in
+    done _ _ _ _ _ (turned _ _ _ (c.args.count - c.loop-done.done) _ _ i.goes
+    (omega arith)) i.can refl

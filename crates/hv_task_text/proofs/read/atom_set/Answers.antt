@@ -1,11 +1,11 @@
 use Rattle.std.proofs.Common.{◌∙◌, ◌∷◌, ◌++◌, [], subst, sym}
 use Rattle.hv_grammar.specs.Parsers.{pure}
-use Rattle.hv_grammar.proofs.Going.{start, stops}
+use Rattle.hv_grammar.proofs.Going.{done, no_memory, start, stops}
 use Rattle.hv_task.specs.AtomList.{set_of}
 use Rattle.hv_task.specs.State.{AreBelow}
 use Rattle.hv_task.proofs.Sets.{set_below, set_more}
 use Rattle.hv_task_text.specs.TaskFile.{atom_or, atom_set}
-use Rattle.hv_task_text.proofs.Listed.{ahead, more_read}
+use Rattle.hv_task_text.proofs.Listed.{ahead, last_read, more_read}
 use Rattle.hv_task_text.proofs.Sets.{no_atom}
 use Rattle.hv_task_text.proofs.read.atom_set.Goals as goal
 
@@ -45,3 +45,26 @@ pub returns-clause-below : goal.returns-clause-below
 returns-clause-below g c =
     subst (AreBelow c.args.atoms) (sym (c.in_ok-take.ensures.list ∙ c.lines.invariant.1.set))
     (set_below c.args.atoms c.lines.invariant.0)
+
+pub returns-in_err-insert-clause-reads : goal.returns-in_err-insert-clause-reads
+returns-in_err-insert-clause-reads g c =
+    no_memory _ _ _ _ _ (more_read c.args.kind
+    (atom_or c.args.closing.now c.args.kind c.args.atoms) (λ all. pure (set_of c.args.atoms all))
+    c.in_ok-atom.field-0 c.in-Some.atom c.lines.invariant.1.goes c.in_ok-atom.ensures.reads
+    c.in-Some.is) c.from_residual-in_err-insert.ensures.1
+
+pub returns-in_err-take-clause-reads : goal.returns-in_err-take-clause-reads
+returns-in_err-take-clause-reads g c =
+    no_memory _ _ _ _ _ (last_read c.args.kind
+    (atom_or c.args.closing.now c.args.kind c.args.atoms) (λ all. pure (set_of c.args.atoms all))
+    c.in_ok-atom.field-0 c.lines.invariant.1.goes c.in_ok-atom.ensures.reads
+    c.in_default.not-Some) c.from_residual-in_err-take.ensures.1
+
+pub returns-clause-reads : goal.returns-clause-reads
+returns-clause-reads g c =
+    done _ _ _ _ _ (last_read c.args.kind
+    (atom_or c.args.closing.now c.args.kind c.args.atoms) (λ all. pure (set_of c.args.atoms all))
+    c.in_ok-atom.field-0 c.lines.invariant.1.goes c.in_ok-atom.ensures.reads
+    c.in_default.not-Some)
+    c.in_ok-atom.ensures.reads.can
+    (c.in_ok-take.ensures.list ∙ c.lines.invariant.1.set)

@@ -9,6 +9,33 @@ use Rattle.hv_formula.proofs.Walked.{denied_along_is, denied_below, size_denied}
 use Rattle.hv_formula.proofs.Ordering.{ordered_next}
 use Rattle.hv_formula.proofs.clause_walk.ClauseWalkWalker.advance.Goals as goal
 
+pub index-code-requires : goal.index-code-requires
+index-code-requires g c = omega (arith, c.if-self-len.false, c.len.ensures)
+
+pub get-clause-requires : goal.get-clause-requires
+get-clause-requires g c =
+    let set = c.args.self.now.set.now in
+    let order = c.args.self.now.order.items in
+    let code = c.index-code.result.now in
+    let less : c.args.self.now.taken < length order =
+    omega (arith, c.if-self-len.false, c.len.ensures) in
+    let below : place_in code < length set.clauses =
+    c.requires.1.only code (c.args.self.now.taken, less, sym c.index-code.ensures) in
+    omega (arith, below, c.place_of.ensures, ap length c.clauses-clauses.ensures.clauses)
+
+pub put_rest-requires-clause-codes : goal.put_rest-requires-clause-codes
+put_rest-requires-clause-codes g c =
+    subst (λ xs. OrdersUpto (length c.get-clause.result.now) xs)
+    (sym c.as_slice-codes.ensures.value) c.in_ok-of_literals.ensures
+
+pub put_rest-requires-clause-within : goal.put_rest-requires-clause-within
+put_rest-requires-clause-within g c = c.common-kept.ensures.within
+
+pub put_rest-requires-clause-front : goal.put_rest-requires-clause-front
+put_rest-requires-clause-front g c =
+    c.truncate.ensures.items ∙ (ap (take c.common-kept.result) (sym c.as_slice.ensures.value)
+    ∙ c.common-kept.ensures.same)
+
 pub returns-clause-step : goal.returns-clause-step
 returns-clause-step g c =
     let set = c.args.self.now.set.now in

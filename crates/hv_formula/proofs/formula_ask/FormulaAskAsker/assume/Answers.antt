@@ -1,6 +1,7 @@
 use Rattle.std.proofs.Common.{◌≡◌, ◌∙◌, ◌<◌, ◌++◌, ◌∷◌, [], true, false, length, not, sym, ap}
 use Rattle.std.proofs.Common.{subst, Some, arith}
 use Rattle.std.proofs.Math.Bool.{beq}
+use Rattle.hv_propagation.specs.Clauses.{AreClauses}
 use Rattle.hv_formula.specs.Working.Asking.{IsAskedAlong}
 use Rattle.hv_propagation.specs.Marks.{known}
 use Rattle.hv_propagation.specs.Trail.{marks_of}
@@ -8,6 +9,30 @@ use Rattle.hv_formula.proofs.Asking.{asked_again, asked_broken, asked_followed, 
 use Rattle.hv_formula.proofs.Asking.{asked_open, asked_pushed, asked_shut, asked_sound}
 use Rattle.hv_formula.proofs.Asking.{asked_written, never, told_other, told_same}
 use Rattle.hv_formula.proofs.formula_ask.FormulaAskAsker.assume.Goals as goal
+
+pub seek-requires-clause-over : goal.seek-requires-clause-over
+seek-requires-clause-over g c = (
+  subst (λ n. AreClauses n c.bare-bare.result.clauses.now) (sym c.requires.stands.size)
+      c.bare-bare.ensures.below,
+  c.bare-bare.ensures.index,
+)
+
+pub write-requires-clause-atom : goal.write-requires-clause-atom
+write-requires-clause-atom g c =
+    subst (λ n. c.args.literal.atom < n)
+    (sym (ap length c.in-Some.ensures.followed.roots ∙ c.requires.stands.size)) c.requires.atom
+
+pub write-requires-clause-unknown : goal.write-requires-clause-unknown
+write-requires-clause-unknown g c = sym c.read.ensures ∙ c.in-None.is
+
+pub returns-in_default-clause-assumed : goal.returns-in_default-clause-assumed
+returns-in_default-clause-assumed g c = c.in_ok-push-2.ensures.items
+
+pub returns-in-Some-read-clause-assumed : goal.returns-in-Some-read-clause-assumed
+returns-in-Some-read-clause-assumed g c = c.in_ok-push-2.ensures.items
+
+pub returns-in_ok-push-in-None-clause-assumed : goal.returns-in_ok-push-in-None-clause-assumed
+returns-in_ok-push-in-None-clause-assumed g c = c.in_ok-push-2.ensures.items
 
 pub seek-requires-clause-left : goal.seek-requires-clause-left
 seek-requires-clause-left g c =

@@ -1,10 +1,38 @@
-use Rattle.std.proofs.Common.{◌∙◌, [], true, false, length, refl, sym, subst, arith}
+use Rattle.std.proofs.Common.{◌∙◌, [], true, false, length, refl, sym, ap, subst, arith}
+use Rattle.hv_propagation.specs.Clauses.{AreClauses}
 use Rattle.hv_formula.specs.Working.Asking.{IsAskedAlong}
 use Rattle.hv_propagation.specs.Chase.{AreKept}
 use Rattle.hv_propagation.specs.Trail.{Knowledge}
 use Rattle.hv_formula.proofs.Asking.{asked_again, asked_broken, asked_followed, asked_left}
 use Rattle.hv_formula.proofs.Asking.{asked_meets, asked_none, asked_open, asked_shut}
 use Rattle.hv_formula.proofs.formula_ask.FormulaAskAsker.meets.Goals as goal
+
+pub close-requires-clause-over : goal.close-requires-clause-over
+close-requires-clause-over g c = (
+  subst (λ n. AreClauses n c.bare-bare.result.clauses.now) (sym c.requires.stands.size)
+      c.bare-bare.ensures.below,
+  c.bare-bare.ensures.index,
+)
+
+pub returns-then-not-close-clause-lengths : goal.returns-then-not-close-clause-lengths
+returns-then-not-close-clause-lengths g c = c.in_ok-reserve.ensures.lengths
+
+pub complete_in-requires-clause-size : goal.complete_in-requires-clause-size
+complete_in-requires-clause-size g c =
+    ap length c.if-not-close.ensures.followed.roots ∙ c.requires.stands.size
+
+pub complete_in-requires-clause-state : goal.complete_in-requires-clause-state
+complete_in-requires-clause-state g c = c.in_ok-reserve.ensures.room.state ∙ c.atoms.ensures
+
+pub returns-clause-lengths : goal.returns-clause-lengths
+returns-clause-lengths g c =
+    let kept = c.in_ok-reserve.ensures.lengths in
+    record {
+      marks = kept.marks;
+      counts = kept.counts;
+      queue = kept.queue;
+      choice = kept.choice;
+    }
 
 pub close-requires-clause-left : goal.close-requires-clause-left
 close-requires-clause-left g c =

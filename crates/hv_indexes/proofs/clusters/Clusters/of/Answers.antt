@@ -1,9 +1,29 @@
 use Rattle.std.proofs.Common.{◌∙◌, List, ap, length, map, refl, subst, sym, ℕ}
 use Rattle.std.proofs.lemmas.List.{length-map}
+use Rattle.std.specs.List.Sorted.{IsStrictlyIncreasing}
 use Rattle.hv_indexes.specs.Working.Mates.{AreClustersUpto}
 use Rattle.hv_indexes.specs.Rows.{AreHeads, code, place_of_code}
 use Rattle.hv_indexes.proofs.Mated.{clusters_are, owned_by, places_inside}
 use Rattle.hv_indexes.proofs.clusters.Clusters.of.Goals as goal
+
+pub heads_of-requires : goal.heads_of-requires
+heads_of-requires c =
+    subst IsStrictlyIncreasing (sym c.deref.ensures.value) c.in_ok-sort_by_keys.ensures.rises
+
+pub of-requires-clause-occurs : goal.of-requires-clause-occurs
+of-requires-clause-occurs c = c.requires.occurs
+
+pub of-requires-clause-heads : goal.of-requires-clause-heads
+of-requires-clause-heads c =
+    let sorted = c.sort_by_keys.new.codes.items in
+    let numbers = c.in_ok-places.ensures
+    ∙ ap (λ (xs : List ℕ). map place_of_code xs) c.deref-2.ensures.value in (
+      sorted,
+      subst (AreHeads sorted) (sym c.deref-3.ensures.value)
+          (subst (λ xs. AreHeads xs c.in_ok-heads.heads.items) c.deref.ensures.value
+          c.in_ok-heads.ensures),
+      sym (ap length (c.deref-4.ensures.value ∙ numbers) ∙ length-map sorted place_of_code),
+    )
 
 pub of-requires-clause-places : goal.of-requires-clause-places
 of-requires-clause-places c =

@@ -1,6 +1,7 @@
 use Rattle.std.proofs.Common.{◌∙◌, ℕ, List, ◌<◌, length, get_or, sym, subst}
 use Rattle.std.proofs.lemmas.Bool.{eqb-true}
 use Rattle.std.proofs.lemmas.List.{nil_from_length}
+use Rattle.std.specs.List.Sorted.{IsStrictlyIncreasing}
 use Rattle.hv_indexes.specs.Occurrences.{AreOccurrences, ArePartners}
 use Rattle.hv_indexes.specs.Rows.{AreHeads, place_of_code}
 use Rattle.hv_indexes.proofs.Alone.{empty_rows}
@@ -13,6 +14,16 @@ returns-then-is_empty-clause-rows c =
     (empty_rows c.args.sign c.args.clauses.now c.args.codes.items c.requires.few c.requires.codes
     (nil_from_length c.args.codes.items
     (sym c.args.codes.ok.0 ∙ eqb-true _ 0 (sym c.is_empty.ensures ∙ c.if-is_empty.true))))
+
+pub heads_of-requires : goal.heads_of-requires
+heads_of-requires c =
+    subst IsStrictlyIncreasing (sym c.deref.ensures.value) c.in_ok-sort_by_keys.ensures.rises
+
+pub entries_of-requires-clause-below : goal.entries_of-requires-clause-below
+entries_of-requires-clause-below c = c.requires.below
+
+pub entries_of-requires-clause-pairs : goal.entries_of-requires-clause-pairs
+entries_of-requires-clause-pairs c = c.requires.pairs
 
 pub entries_of-requires-clause-inside : goal.entries_of-requires-clause-inside
 entries_of-requires-clause-inside c =

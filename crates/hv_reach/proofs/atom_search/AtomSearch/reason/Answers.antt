@@ -1,9 +1,15 @@
 use Rattle.std.proofs.Common.{◌≡◌, ◌∙◌, true, refl, subst, sym}
 use Rattle.std.specs.List.{All}
 use Rattle.std.proofs.lemmas.Bool.{both_ways}
-use Rattle.hv_task.specs.State.{has_atom}
+use Rattle.hv_task.specs.State.{AreBelow, has_atom}
+use Rattle.hv_task.specs.Strips.{atoms}
 use Rattle.hv_reach.proofs.Deciding.{relaxed_excludes, relaxed_reached}
 use Rattle.hv_reach.proofs.atom_search.AtomSearch.reason.Goals as goal
+
+pub row_has-requires : goal.row_has-requires
+row_has-requires c =
+    subst (λ n. AreBelow n c.as_slice.result.now) (sym c.in_ok-fill.ensures.size)
+    (subst (AreBelow (atoms c.args.task.now)) (sym c.as_slice.ensures.items) c.goal.ensures.below)
 
 pub returns-then-row_has-clause-some : goal.returns-then-row_has-clause-some
 returns-then-row_has-clause-some c =
