@@ -66,7 +66,7 @@ def median(runs):
 class Bench:
     """What a script was asked for, the runs of its programs, and what they answered wrongly."""
 
-    def __init__(self, text, default):
+    def __init__(self, text, default, counts=False):
         words = argparse.ArgumentParser(description=text.split("\n", maxsplit=1)[0])
         words.add_argument("sizes", nargs="*", type=int, help="without: %s" % default)
         words.add_argument("--program", default=PROGRAM)
@@ -76,6 +76,9 @@ class Bench:
         words.add_argument("--times", type=int, default=3, help="runs, of which the median counts")
         words.add_argument("--limit", type=int, default=120, help="the seconds that a run may take")
         words.add_argument("--write", action="store_true", help="renews the table of README.md")
+        if counts:
+            words.add_argument("--counted", action="store_true",
+                               help="counts instructions, in millions, by valgrind")
         self.asked, self.faults = words.parse_args(), []
         self.sizes = self.asked.sizes or default
         if self.asked.program == PROGRAM:
@@ -109,6 +112,14 @@ class Bench:
         if (status, got) != wanted:
             self.faults.append("%s: %s ended with %d: %r" % (title, command[0], status, got[:80]))
         return one
+
+    def counted(self, title, words, wanted):
+        """The instructions of a run of the program, in millions."""
+        command = ["valgrind", "--tool=callgrind", "--callgrind-out-file=/dev/null"]
+        run = subprocess.run(command + [self.programs[0]] + words, capture_output=True)
+        if (run.returncode, run.stdout) != wanted:
+            self.faults.append("%s: ended with %d: %r" % (title, run.returncode, run.stdout[:80]))
+        return int(re.search(rb"Collected : (\d+)", run.stderr).group(1)) / 1e6
 
     def jobs(self, name, rows):
         """Prints a table of jobs, and ends. A row has a title, what its size counts, and a function
