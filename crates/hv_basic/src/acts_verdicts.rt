@@ -48,8 +48,6 @@ fn is_part(table: &Table, first: usize, second: usize) -> bool
     ensures { result ≡ true → (number : ℕ) → acts_of table.now.lines first number ≡ true
         → acts_of table.now.lines second number ≡ true }
 {
-    // For its contract alone: the lines are those of a table.
-    let _count = table.acts_count();
     if first == second {
         return true;
     }

@@ -182,8 +182,6 @@ fn is_over_all(table: &Table, acts: Option<usize>) -> bool
     let Some(acts) = acts else {
         return false;
     };
-    // For its contract alone: the lines are those of a table.
-    let _count = table.acts_count();
     match table.acts(acts) {
         Acts::All => true,
         Acts::List(_) | Acts::Both(..) => false,

@@ -165,8 +165,6 @@ pub(crate) fn verdict_of_joint(
     ensures { IfOk result (λ found. IfSome found (IsVerdictOfSub (setting_in case.now)
         (lines_in case.now) claim.word claim.left claim.right)) }
 {
-    // For its contract alone: the lines are those of a table.
-    let _count = case.table.expr_count();
     let store = case.store;
     let right = claim.right;
     match (joint, case.table.expr(right)) {

@@ -23,8 +23,6 @@ pub(crate) fn long_list(table: &Table, acts: Option<usize>, actions: u32) -> Opt
     let Acts::List(listed) = table.acts(acts) else {
         return None;
     };
-    // For its contract alone: the lines are those of a table.
-    let _count = table.acts_count();
     let listed = listed.as_slice();
     if listed.len() < actions as usize / 2 {
         return None;

@@ -110,8 +110,6 @@ fn renew(
     ensures root { IfOk result (λ yes. yes ≡ true → kept.new.root ≡ Some root) }
     ensures after { IfOk result (λ yes. yes ≡ true → kept.new.after ≡ after) }
 {
-    // For its contract alone: the lines are those of a table.
-    let _count = case.table.expr_count();
     if !is_union(case.table.expr(root)) {
         return Ok(false);
     }

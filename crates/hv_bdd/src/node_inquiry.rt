@@ -172,7 +172,6 @@ impl<'a> NodeInquiry<'a> {
             state }
     {
         let _atoms = self.nodes.atoms();
-        let _of_task = self.task.atoms();
         let needed = needed_by(self.task, query.action);
         let changed = changed_by(self.task, query.action);
         is_fruitless(known, self.nodes, &needed, &changed, budget)

@@ -1,7 +1,7 @@
 //! Queries about nodes.
 
 ghost use Rattle.std.specs.Prelude.{◌≡◌, ◌<◌, ◌∷◌, ◌++◌, [], length, IfOk, IfSome, OnOk};
-ghost use Rattle.hv_task.specs.Strips.{atoms};
+ghost use Rattle.hv_task.specs.Strips.{IsTask, atoms};
 ghost use Rattle.hv_sets.specs.Query.{action_of};
 ghost use Rattle.hv_bdd.specs.Nodes.{in_node, node_count};
 ghost use Rattle.hv_bdd.specs.Live.{LivePass, asked_of, changed_by, needed_by, operands_of};
@@ -87,7 +87,8 @@ fn asked_of(positive: bool, operand: &Operand) -> Asked
 // The bits that an action needs.
 pub(crate) fn needed_by<'a>(task: &'a Task, action: Option<u32>) -> AtomBits<'a>
     requires { IfSome action (λ a. a < length task.now.actions) }
-    ensures { result ≡ needed_by (atoms task.now) (action_of task.now action) }
+    ensures bits { result ≡ needed_by (atoms task.now) (action_of task.now action) }
+    ensures task { IsTask task.now }
 {
     match action {
         None => AtomBits::none(task.atoms()),

@@ -1,12 +1,17 @@
 -- A checker that is fed the lines of a file one after another, as they are read.
 use Rattle.std.proofs.Common.{◌≡◌, ℕ, ◌≤◌, ◌∙◌, List, [], ◌∷◌, ◌++◌, Option, Some, None, IfSome}
 use Rattle.std.proofs.Common.{append_assoc, ap, length, refl, subst, sym}
+use Rattle.std.proofs.Common.{Err, Ok, arith}
+use Rattle.std.specs.Prelude.{OnOk, Result}
+use Rattle.std.specs.Io.KnownBytes.{IsAtEnd}
 use Rattle.std.proofs.lemmas.List.{map-append}
 use Rattle.hv_bytes.specs.FirstLine.{BeginsLong, FitsLimits, MovesBytes, TakesLine}
 use Rattle.hv_bytes.specs.Pieces.{PieceBytes, as_pieces, pieces_of}
 use Rattle.hv_bytes.specs.Working.Pieces.{GaveLines}
 use Rattle.hv_bytes.specs.Standard.{standard}
-use Rattle.hv_bytes.proofs.WholeText.{gave_front, gave_long, gave_more}
+use Rattle.hv_bytes.specs.States.{LinesState, coming_of, no_lines}
+use Rattle.hv_bytes.specs.Files.{Names, Opens, bytes_of}
+use Rattle.hv_bytes.proofs.WholeText.{gave_all, gave_front, gave_long, gave_more}
 use Rattle.hv_lines.specs.declared.reason.Reason.{Reason}
 use Rattle.hv_checker.specs.Checkers.{CheckerState, HasJudged, HasJudgedAt}
 use Rattle.hv_checker.specs.Stopping.{stop_after}
@@ -102,3 +107,41 @@ goes_on before F.Good other = refl
 goes_on before F.Marked other = refl
 goes_on before (F.Refused reason) other = absurd (other reason refl)
 goes_on before F.Stopped other = refl
+
+-- all lines were fed: the checker is as the whole file leaves it
+pub fed_all : (file coming : Option (List ℕ)) (earlier number : ℕ) (checker : CheckerState)
+    → IsFeeding file coming earlier number checker → IsAtEnd coming
+    → IfSome file (λ bytes. HasJudged checker (pieces_of standard bytes))
+fed_all None coming earlier number checker so_far end = tt
+fed_all (Some bytes) coming earlier number checker so_far end =
+    subst (λ ps. HasJudged checker ps) (sym (gave_all standard (Some bytes) coming so_far.given
+    earlier so_far.gave end)) so_far.stands
+
+-- what is said of the bytes that an opened file has left is said of the bytes under its name
+pub fed_opened : {E : Type 0} (files : Option Names) (name : List ℕ) (left : Option (List ℕ))
+    (P : List ℕ → Type 0) (r : Result (Unit {0}) E)
+    → Opens files name left → OnOk r (IfSome left P)
+    → OnOk r (IfSome files (λ f. P (bytes_of f name)))
+fed_opened None name left P (Ok u) opens h = tt
+fed_opened (Some files) name left P (Ok u) opens h = subst (λ l. IfSome l P) opens h
+fed_opened files name left P (Err e) opens h = tt
+
+-- of a file no line was given yet
+gave_none : (left : Option (List ℕ))
+    → GaveLines standard left [] (coming_of (no_lines standard) left) 0
+gave_none None = tt
+gave_none (Some bytes) = refl
+
+-- nothing was fed yet
+pub fed_none : (left : Option (List ℕ)) (lines : LinesState) (checker : CheckerState)
+    → lines ≡ no_lines standard → checker.fed ≡ 0 → checker.stop ≡ S.Going → HasJudged checker []
+    → IsFeeding left (coming_of lines left) lines.earlier lines.number checker
+fed_none left lines checker fresh unfed going stands =
+    subst (λ (l : LinesState). IsFeeding left (coming_of l left) l.earlier l.number checker)
+    (sym fresh) (record {
+      going = going;
+      few = omega (arith, unfed);
+      given = [];
+      gave = gave_none left;
+      stands = stands;
+    })

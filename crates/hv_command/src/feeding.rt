@@ -13,6 +13,7 @@ ghost use Rattle.hv_bytes.specs.Files.{bytes_of};
 ghost use Rattle.hv_bytes.specs.Pieces.{pieces_of};
 ghost use Rattle.hv_checker.specs.Checkers.{HasJudged};
 ghost use Rattle.hv_bytes.specs.Standard.{standard};
+ghost use Rattle.hv_bytes.specs.States.{no_lines};
 ghost use Rattle.hv_checker.specs.declared.stop.Stop.TheVariants as C;
 
 use crate::job_fault::JobFault;
@@ -44,6 +45,29 @@ pub(crate) fn feed_file<S: Shelf>(
 {
     shelf.open(name)?;
     let mut lines = Lines::new(alloc, Limits::STANDARD)?;
+    feed_lines(shelf, &mut lines, checker)
+}
+
+// Feeds what is left on the shelf, which these lines cut from its start.
+fn feed_lines<S: Shelf>(
+    shelf: &mut S,
+    lines: &mut Lines,
+    checker: &mut Checker<'_>,
+) -> Result<(), JobFault>
+    requires fresh { lines.old ≡ no_lines standard }
+    requires unfed { checker.old.fed ≡ 0 }
+    requires going { checker.old.stop ≡ C.Going }
+    requires stands { HasJudged checker.old [] }
+    ensures fed { OnOk result (IfSome (S.left shelf.old) (λ bytes.
+        HasJudged checker.new (pieces_of standard bytes))) }
+    ensures setting { checker.new.setting ≡ checker.old.setting }
+    ensures found { OnOk result (checker.new.stop ≢ C.Memory) }
+    ensures held { S.held shelf.new ≡ S.held shelf.old }
+    ensures allows { S.allows shelf.new ≡ S.allows shelf.old }
+    ensures later { S.faults shelf.old ≤ S.faults shelf.new }
+    ensures cause { IsErrOf result JobFault.ReadFault → Rose (S.faults shelf.old)
+        (S.faults shelf.new) }
+{
     'feeding: loop {
         match lines.next(shelf) {
             Ok(Next::Line) => {

@@ -18,12 +18,22 @@ pub fn sample_task(alloc: Global, rooms: u32) -> Result<Task, AllocError>
     ensures { IfOk result (λ task. task ≡ sample_task rooms) }
 {
     let mut task = Task::new(alloc);
-    add_rooms(alloc, &mut task, rooms)?;
+    fill_task(alloc, &mut task, rooms)?;
+    Ok(task)
+}
+
+// Makes the task of so many rooms of one without atoms and actions.
+fn fill_task(alloc: Global, task: &mut Task, rooms: u32) -> Result<(), AllocError>
+    requires rooms { IsRooms rooms }
+    requires no_names { task.old.names ≡ [] }
+    requires no_actions { task.old.actions ≡ [] }
+    ensures { OnOk result (task.new ≡ sample_task rooms) }
+{
+    add_rooms(alloc, task, rooms)?;
     task.add_atom(Name::new(alloc, b"key")?)?;
     task.set_start(only(alloc, 0)?);
     task.set_goal(only(alloc, rooms)?);
-    add_moves(alloc, &mut task, rooms)?;
-    Ok(task)
+    add_moves(alloc, task, rooms)
 }
 
 // Adds an atom for each room to a task without atoms.

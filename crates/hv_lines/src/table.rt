@@ -167,6 +167,7 @@ impl Table {
         ensures says { acts_at self.now.lines id ≡ Some result.now }
         ensures before { ActsReferBelow id result.now }
         ensures below { ActsReferBelow (acts_count self.now.lines) result.now }
+        ensures table { IsTable self.now.lines }
     {
         match &self.lines[self.acts[id] as usize] {
             Line::Acts { acts, .. } => acts,
@@ -181,6 +182,7 @@ impl Table {
         ensures before { ExprRefersBelow (acts_count self.now.lines) id result.now }
         ensures below { ExprRefersBelow (acts_count self.now.lines)
             (expr_count self.now.lines) result.now }
+        ensures table { IsTable self.now.lines }
     {
         match &self.lines[self.exprs[id] as usize] {
             Line::Expr { expr, .. } => expr,

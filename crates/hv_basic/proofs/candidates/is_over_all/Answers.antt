@@ -8,6 +8,6 @@ returns-in-All c = λ _. (
   c.in-Some.acts,
   c.in-Some.is,
   λ number. ap (λ f. f number)
-      (acts_law c.args.table.now.lines c.in-Some.acts A.All c.acts_count-count.ensures.table
+      (acts_law c.args.table.now.lines c.in-Some.acts A.All c.acts.ensures.table
       (c.acts.ensures.says ∙ ap Some c.in-All.is)),
 )

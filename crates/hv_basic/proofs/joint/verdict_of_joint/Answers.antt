@@ -11,14 +11,14 @@ pub number_of-requires : goal.number_of-requires
 number_of-requires c =
     let found = (horn_found c.args.case.now.task.now (lines_in c.args.case.now)
     c.args.case.now.store.now
-    c.args.case.now.stored c.expr_count-count.ensures.table c.args.claim.right _
+    c.args.case.now.stored c.expr.ensures.table c.args.claim.right _
     (c.expr.ensures.says ∙ ap Some c.in-Horn-Horn.is-1)) in (found.number, found.named)
 
 pub get-right-requires : goal.get-right-requires
 get-right-requires c =
     found_within _ _ c.args.claim.right _ (horn_found c.args.case.now.task.now (lines_in
     c.args.case.now) c.args.case.now.store.now
-    c.args.case.now.stored c.expr_count-count.ensures.table c.args.claim.right _
+    c.args.case.now.stored c.expr.ensures.table c.args.claim.right _
     (c.expr.ensures.says ∙ ap Some c.in-Horn-Horn.is-1))
     _ c.horns.ensures c.number_of.result c.number_of.ensures
 
@@ -26,14 +26,14 @@ pub number_of-requires-in-Dual-Dual : goal.number_of-requires-in-Dual-Dual
 number_of-requires-in-Dual-Dual c =
     let found = (dual_found c.args.case.now.task.now (lines_in c.args.case.now)
     c.args.case.now.store.now
-    c.args.case.now.stored c.expr_count-count.ensures.table c.args.claim.right _
+    c.args.case.now.stored c.expr.ensures.table c.args.claim.right _
     (c.expr.ensures.says ∙ ap Some c.in-Dual-Dual.is-1)) in (found.number, found.named)
 
 pub get-right-requires-in-Dual-Dual : goal.get-right-requires-in-Dual-Dual
 get-right-requires-in-Dual-Dual c =
     found_within _ _ c.args.claim.right _ (dual_found c.args.case.now.task.now (lines_in
     c.args.case.now) c.args.case.now.store.now
-    c.args.case.now.stored c.expr_count-count.ensures.table c.args.claim.right _
+    c.args.case.now.stored c.expr.ensures.table c.args.claim.right _
     (c.expr.ensures.says ∙ ap Some c.in-Dual-Dual.is-1))
     _ c.duals.ensures c.number_of-in-Dual-Dual.result c.number_of-in-Dual-Dual.ensures
 
@@ -41,14 +41,14 @@ pub number_of-requires-in-Two-Two : goal.number_of-requires-in-Two-Two
 number_of-requires-in-Two-Two c =
     let found = (two_found c.args.case.now.task.now (lines_in c.args.case.now)
     c.args.case.now.store.now
-    c.args.case.now.stored c.expr_count-count.ensures.table c.args.claim.right _
+    c.args.case.now.stored c.expr.ensures.table c.args.claim.right _
     (c.expr.ensures.says ∙ ap Some c.in-Two-Two.is-1)) in (found.number, found.named)
 
 pub get-right-requires-in-Two-Two : goal.get-right-requires-in-Two-Two
 get-right-requires-in-Two-Two c =
     found_within _ _ c.args.claim.right _ (two_found c.args.case.now.task.now (lines_in
     c.args.case.now) c.args.case.now.store.now
-    c.args.case.now.stored c.expr_count-count.ensures.table c.args.claim.right _
+    c.args.case.now.stored c.expr.ensures.table c.args.claim.right _
     (c.expr.ensures.says ∙ ap Some c.in-Two-Two.is-1))
     _ c.twos.ensures c.number_of-in-Two-Two.result c.number_of-in-Two-Two.ensures
 
@@ -63,7 +63,7 @@ returns-in-Horn-Horn c =
     c.args.claim.word c.get-right.result.now c.verdict_within.result c.requires.word
     (found_is _ _ c.args.claim.right _ (horn_found c.args.case.now.task.now (lines_in
     c.args.case.now) c.args.case.now.store.now
-    c.args.case.now.stored c.expr_count-count.ensures.table c.args.claim.right _
+    c.args.case.now.stored c.expr.ensures.table c.args.claim.right _
     (c.expr.ensures.says ∙ ap Some c.in-Horn-Horn.is-1))
     _ c.horns.ensures c.number_of.result c.number_of.ensures
     c.get-right.result.now c.get-right.ensures)
@@ -81,7 +81,7 @@ returns-in-Dual-Dual c =
     c.requires.word
     (found_is _ _ c.args.claim.right _ (dual_found c.args.case.now.task.now (lines_in
     c.args.case.now) c.args.case.now.store.now
-    c.args.case.now.stored c.expr_count-count.ensures.table c.args.claim.right _
+    c.args.case.now.stored c.expr.ensures.table c.args.claim.right _
     (c.expr.ensures.says ∙ ap Some c.in-Dual-Dual.is-1))
     _ c.duals.ensures c.number_of-in-Dual-Dual.result c.number_of-in-Dual-Dual.ensures
     c.get-right-in-Dual-Dual.result.now c.get-right-in-Dual-Dual.ensures)
@@ -99,7 +99,7 @@ returns-in-Two-Two c =
     c.requires.word
     (found_is _ _ c.args.claim.right _ (two_found c.args.case.now.task.now (lines_in
     c.args.case.now) c.args.case.now.store.now
-    c.args.case.now.stored c.expr_count-count.ensures.table c.args.claim.right _
+    c.args.case.now.stored c.expr.ensures.table c.args.claim.right _
     (c.expr.ensures.says ∙ ap Some c.in-Two-Two.is-1))
     _ c.twos.ensures c.number_of-in-Two-Two.result c.number_of-in-Two-Two.ensures
     c.get-right-in-Two-Two.result.now c.get-right-in-Two-Two.ensures)

@@ -15,7 +15,7 @@ returns c =
       λ number. subst (λ xs. (acts_of lines acts number ≡ true) ↔ Contains xs number)
           (sym c.as_slice-listed.ensures)
           (listed_are lines acts c.in-List.listed
-          (acts_law lines acts (A.List c.in-List.listed) c.acts_count-count.ensures.table
+          (acts_law lines acts (A.List c.in-List.listed) c.acts.ensures.table
           (c.acts.ensures.says ∙ ap Some c.in-List.is)) number),
       c.is_rising.ensures c.if-not-is_rising.false,
     )

@@ -15,7 +15,7 @@ new-requires-2-clause-tuples c =
     (parts_are list task query is_task c.requires.over _ _ _ _ _
     (c.new-start.ensures ∙ ap₂ state_of atoms c.start.ensures.start)
     (c.new.ensures ∙ ap₂ state_of atoms c.goal.ensures.goal)
-    c.needed_by-needed.ensures c.changed_by-changed.ensures c.requires.asked)
+    c.needed_by-needed.ensures.bits c.changed_by-changed.ensures c.requires.asked)
     c.atoms-atoms.ensures.reduced c.requires.ready
 
 pub new-requires-2-clause-goal : goal.new-requires-2-clause-goal

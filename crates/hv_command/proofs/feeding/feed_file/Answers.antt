@@ -1,89 +1,26 @@
-use Rattle.std.proofs.Common.{◌≤◌, ap, sym, subst, ◌∙◌, length, arith, rules}
-use Rattle.hv_bytes.specs.Working.Files.{file_of}
-use Rattle.hv_bytes.specs.FirstLine.{BeginsLong, FitsLimits, TakesLine}
+use Rattle.std.proofs.Common.{◌∙◌, arith}
 use Rattle.hv_bytes.specs.Pieces.{pieces_of}
 use Rattle.hv_bytes.specs.Standard.{standard}
-use Rattle.hv_bytes.specs.States.{coming_of}
-use Rattle.hv_bytes.specs.declared.cutting.Limits.{Limits}
-use Rattle.hv_bytes.proofs.WholeText.{known}
 use Rattle.hv_checker.specs.Checkers.{HasJudged}
-use Rattle.hv_checker.specs.Stopping.{stop_after}
-use Rattle.hv_command.proofs.FedFiles.{fed_line, fed_long, fed_refused, goes_on}
+use Rattle.hv_command.proofs.FedFiles.{fed_opened}
 use Rattle.hv_command.proofs.feeding.feed_file.Goals as goal
 
-pub returns-in-Refused-clause-fed : goal.returns-in-Refused-clause-fed
-returns-in-Refused-clause-fed g c =
-    let before = coming_of c.feeding.lines (g.S.Shelf.left c.feeding.shelf) in
-    let after = coming_of c.next.new.self (g.S.Shelf.left c.next.new.shelf) in
-    let line = c.line.result.now in
-    let file = file_of (g.S.Shelf.held c.args.shelf.now) c.args.name.now in
-    let fed = fed_line file before after line c.feeding.lines.earlier c.next.new.self.earlier
-    c.feeding.lines.number
-    c.feeding.checker c.feed.new.self c.feeding.invariant.feeding
-    (subst (λ l. TakesLine before after l) (sym c.line.ensures) (c.in-Ok-Line.ensures.line (cc)))
-    c.in-Ok-Line.ensures.earlier
-    (subst (λ (limits : Limits). FitsLimits limits.line limits.file c.feeding.lines.earlier
-    (length line)) c.feeding.invariant.limits
-    (subst (λ l. FitsLimits c.feeding.lines.limits.line c.feeding.lines.limits.file
-    c.feeding.lines.earlier (length l)) (sym c.line.ensures) (c.in-Ok-Line.ensures.fits (cc))))
-    c.in_ok-feed-in-Ok-Line.ensures.stands in
-    known (g.S.Shelf.held c.args.shelf.now) c.args.name.now
-    (λ bytes. HasJudged c.feed.new.self (pieces_of standard bytes))
-    (fed_refused file after c.next.new.self.earlier c.feed.new.self c.in-Refused.field-0 fed
-    (c.in_ok-feed-in-Ok-Line.ensures.stop ∙ ap (stop_after c.feeding.checker.stop) c.in-Refused.is))
+pub returns-clause-fed : goal.returns-clause-fed
+returns-clause-fed g c =
+    fed_opened (g.S.Shelf.held c.args.shelf.now) c.args.name.now (g.S.Shelf.left c.open.new.self)
+    (λ bytes. HasJudged c.feed_lines.new.checker (pieces_of standard bytes)) c.feed_lines.result
+    c.in_ok-open.ensures.opened c.feed_lines.ensures.fed
 
-pub feeding-preserved : goal.feeding-preserved
-feeding-preserved g c =
-    let before = coming_of c.feeding.lines (g.S.Shelf.left c.feeding.shelf) in
-    let after = coming_of c.next.new.self (g.S.Shelf.left c.next.new.shelf) in
-    let line = c.line.result.now in
-    let file = file_of (g.S.Shelf.held c.args.shelf.now) c.args.name.now in
-    let fed = fed_line file before after line c.feeding.lines.earlier c.next.new.self.earlier
-    c.feeding.lines.number
-    c.feeding.checker c.feed.new.self c.feeding.invariant.feeding
-    (subst (λ l. TakesLine before after l) (sym c.line.ensures) (c.in-Ok-Line.ensures.line (cc)))
-    c.in-Ok-Line.ensures.earlier
-    (subst (λ (limits : Limits). FitsLimits limits.line limits.file c.feeding.lines.earlier
-    (length line)) c.feeding.invariant.limits
-    (subst (λ l. FitsLimits c.feeding.lines.limits.line c.feeding.lines.limits.file
-    c.feeding.lines.earlier (length l)) (sym c.line.ensures) (c.in-Ok-Line.ensures.fits (cc))))
-    c.in_ok-feed-in-Ok-Line.ensures.stands in
-    let limits = c.in-Ok-Line.ensures.limits ∙ c.feeding.invariant.limits in
-    record {
-      feeding = record {
-        going =
-            c.in_ok-feed-in-Ok-Line.ensures.stop
-            ∙ (goes_on c.feeding.checker.stop c.in_ok-feed-in-Ok-Line.field-0
-            c.in_default.not-Refused
-            ∙ c.feeding.invariant.feeding.going);
-        few = omega (
-          arith,
-          c.in_ok-feed-in-Ok-Line.ensures.few,
-          c.feeding.invariant.feeding.few,
-          c.in-Ok-Line.ensures.number (cc),
-        );
-        given = fed.given;
-        gave = fed.gave;
-        stands = fed.stands;
-      };
-      setting = c.in_ok-feed-in-Ok-Line.ensures.same ∙ c.feeding.invariant.setting;
-      live = (c.in-Ok-Line.ensures.live).1 (search rules);
-      limits = limits;
-      few = subst (λ (l : Limits). c.next.new.self.number ≤ l.file) limits
-          c.in-Ok-Line.ensures.within;
-      held = c.in-Ok-Line.ensures.held ∙ c.feeding.invariant.held;
-      allows = c.in-Ok-Line.ensures.allows ∙ c.feeding.invariant.allows;
-      later = omega (arith, c.feeding.invariant.later, c.in-Ok-Line.ensures.later);
-    }
+pub returns-clause-held : goal.returns-clause-held
+returns-clause-held g c = c.feed_lines.ensures.held ∙ c.in_ok-open.ensures.held
 
-pub returns-in-Err-Long-clause-fed : goal.returns-in-Err-Long-clause-fed
-returns-in-Err-Long-clause-fed g c =
-    let coming = coming_of c.feeding.lines (g.S.Shelf.left c.feeding.shelf) in
-    let file = file_of (g.S.Shelf.held c.args.shelf.now) c.args.name.now in
-    known (g.S.Shelf.held c.args.shelf.now) c.args.name.now
-    (λ bytes. HasJudged c.feed-in-Err-Long.new.self (pieces_of standard bytes))
-    (fed_long file coming c.feeding.lines.earlier c.feeding.lines.number c.feeding.checker
-    c.feed-in-Err-Long.new.self c.feeding.invariant.feeding
-    (subst (λ (limits : Limits). BeginsLong coming limits.line limits.file c.feeding.lines.earlier)
-    c.feeding.invariant.limits (c.in-Err-Long.ensures.long (cc)))
-    c.in_ok-feed-in-Err-Long.ensures.stands)
+pub returns-clause-allows : goal.returns-clause-allows
+returns-clause-allows g c = c.feed_lines.ensures.allows ∙ c.in_ok-open.ensures.allows
+
+pub returns-clause-later : goal.returns-clause-later
+returns-clause-later g c =
+    omega (arith, c.in_ok-open.ensures.cause.later, c.feed_lines.ensures.later)
+
+pub returns-clause-cause : goal.returns-clause-cause
+returns-clause-cause g c = λ failed.
+    omega (arith, c.in_ok-open.ensures.cause.later, c.feed_lines.ensures.cause failed)

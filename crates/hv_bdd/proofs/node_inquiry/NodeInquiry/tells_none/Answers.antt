@@ -18,7 +18,7 @@ use Rattle.hv_bdd.proofs.node_inquiry.NodeInquiry.tells_none.Goals as goal
 pub is_fruitless-requires-clause-needed : goal.is_fruitless-requires-clause-needed
 is_fruitless-requires-clause-needed c =
     let task = c.self.inside.task.now in
-    ap length c.needed_by-needed.ensures
+    ap length c.needed_by-needed.ensures.bits
     ∙ (length-needed_by (atoms task) (action_of task c.args.query.now.action)
     ∙ sym c.self.invariant.0)
 
@@ -39,7 +39,7 @@ returns c = λ yes state.
     let asked = active (operands_of query) in
     let start = start_state task in
     let goal = state_of (atoms task) task.goal in
-    let is_task = c.atoms-of_task.ensures.task in
+    let is_task = c.needed_by-needed.ensures.task in
     let over = c.self.invariant.0 in
     let s : TupleSearch = record {
       setting = by_marks list start goal needed changed;
@@ -50,7 +50,7 @@ returns c = λ yes state.
     (atoms i.task) (is_clash i.task (in_node i.list) query) state) c.self.view_is
     (answer_is list task query is_task over s
     (parts_are list task query is_task over start goal needed changed asked refl refl
-    c.needed_by-needed.ensures c.changed_by-changed.ensures refl)
+    c.needed_by-needed.ensures.bits c.changed_by-changed.ensures refl)
     c.atoms-atoms.ensures.reduced
     (subst (λ (i : NodeTask). IsReady (node_count i.list) query) (sym c.self.view_is)
     c.requires.ready) found c.args.budget state
@@ -58,7 +58,7 @@ returns c = λ yes state.
     c.requires.asked
     (subst (λ (i : NodeTask). IsKeptOf i.list i.task c.args.known.now) (sym c.self.view_is)
     c.requires.known)
-    (ap length c.needed_by-needed.ensures
+    (ap length c.needed_by-needed.ensures.bits
     ∙ (length-needed_by (atoms task) (action_of task query.action) ∙ sym over))
     (ap length c.changed_by-changed.ensures
     ∙ (length-changed_by (atoms task) (action_of task query.action) ∙ sym over))

@@ -31,4 +31,5 @@ returns c =
       before = acts_refer _ _ _ r.2 said;
       below = acts_refer_below _ _ _ r.2
           said;
+      table = r.2;
     }

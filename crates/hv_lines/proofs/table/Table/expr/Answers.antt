@@ -30,4 +30,5 @@ returns c =
       says = said;
       before = refers_before _ _ _ r.2 said;
       below = refers_below _ _ _ r.2 said;
+      table = r.2;
     }

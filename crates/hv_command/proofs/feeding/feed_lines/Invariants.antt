@@ -1,13 +1,12 @@
 use Rattle.std.proofs.Common.{◌≡◌, ◌≤◌, ◌-◌, true}
-use Rattle.hv_bytes.specs.Working.Files.{file_of}
 use Rattle.hv_bytes.specs.Standard.{most_file_bytes, standard}
 use Rattle.hv_bytes.specs.States.{coming_of}
 use Rattle.hv_command.proofs.FedFiles.{IsFeeding}
-use Rattle.hv_command.proofs.feeding.feed_file.Given as goal
+use Rattle.hv_command.proofs.feeding.feed_lines.Given as goal
 
 abbrev pub invariant-feeding : goal.invariant-feeding
 invariant-feeding g l = record {
-  feeding : IsFeeding (file_of (g.S.Shelf.held l.fn.shelf) l.fn.name)
+  feeding : IsFeeding (g.S.Shelf.left l.fn.shelf)
       (coming_of l.lines (g.S.Shelf.left l.shelf)) l.lines.earlier l.lines.number l.checker;
   setting : l.checker.setting ≡ l.fn.checker.setting;
   live : l.lines.live ≡ true;

@@ -1,10 +1,10 @@
 use Rattle.std.proofs.Common.{◌∙◌, ap}
 use Rattle.hv_task.specs.Strips.{Strips, atoms}
 use Rattle.hv_command.proofs.Sampled.{below_atoms, key_added, rooms_fit}
-use Rattle.hv_command.proofs.sample.sample_task.Goals as goal
+use Rattle.hv_command.proofs.sample.fill_task.Goals as goal
 
 pub add_atom-requires : goal.add_atom-requires
-add_atom-requires c = rooms_fit c.args.rooms c.add_rooms.new.task.names c.requires
+add_atom-requires c = rooms_fit c.args.rooms c.add_rooms.new.task.names c.requires.rooms
     (ap (λ (t : Strips). t.names) c.in_ok-add_rooms.ensures)
 
 pub set_goal-requires : goal.set_goal-requires
