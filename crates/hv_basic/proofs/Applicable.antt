@@ -19,10 +19,11 @@ use Rattle.hv_sets.specs.declared.operand.Which.TheVariants as W
 use Rattle.hv_sets.proofs.Listed.{in_states-Decides}
 use Rattle.hv_explicit.specs.ListedStates.{ListedStates}
 use Rattle.hv_lines.proofs.Elements.{all_from, cons_cases, got_mapped, in_mapped}
-use Rattle.hv_basic.specs.ActionRows.{AreActionRows}
+use Rattle.hv_rows.specs.ActionRows.{AreActionRows}
+use Rattle.hv_rows.specs.Rows.{IsInRow}
+use Rattle.hv_rows.proofs.Rowed.{tested_row}
 use Rattle.hv_basic.specs.Stores.{listing}
-use Rattle.hv_basic.specs.Working.Candidates.{AreCandidates, AreFound, IsInRow}
-use Rattle.hv_basic.proofs.Rowed.{tested_row}
+use Rattle.hv_basic.specs.Working.Candidates.{AreCandidates, AreFound}
 
 -- an atom of the state of a list is in the list
 held_atom : (n : ℕ) (held : List ℕ) (p : ℕ) → has_atom (state_of n held) p ≡ true
@@ -60,7 +61,7 @@ found_in task rows states listed are below first past has = record {
   first = first;
   each = λ number action held at among within.
       let less = slice_get_within task.actions number action at in
-      let w = tested_row (atoms task) rows action.pre number (are.1 number action at) in
+      let w = tested_row (atoms task) rows action.pre number (are.each number action at) in
       elim (cons_cases (atoms task) action.pre w.0 w.1) [
         | inl last ↦ past number (subst (λ p. IsInRow rows p number) (sym last) w.2) less
         | inr inside ↦

@@ -27,7 +27,8 @@ use Rattle.hv_formula.specs.Clausal.{FormulaState}
 use Rattle.hv_propagation.proofs.Effects.{list_all_from}
 use Rattle.hv_explicit.proofs.Anchored.{passes_at}
 use Rattle.hv_lines.proofs.Elements.{got_mapped, of_one, slice_get_some}
-use Rattle.hv_basic.specs.ActionRows.{StandsInRow, changed_to, in_found_row}
+use Rattle.hv_rows.specs.Rows.{in_found_row}
+use Rattle.hv_basic.specs.ChangeRows.{StandsInRow, changed_to}
 use Rattle.hv_basic.specs.declared.framed.Frame.{Frame}
 use Rattle.hv_basic.specs.Stores.{formula}
 use Rattle.hv_basic.specs.Working.Candidates.{HaveAllClashes}

@@ -21,14 +21,15 @@ use Rattle.hv_sets.specs.declared.operand.Which.TheVariants as W
 use Rattle.hv_sets.specs.declared.query.Query.{Query}
 use Rattle.hv_explicit.proofs.Anchored.{passes_at}
 use Rattle.hv_lines.proofs.Elements.{all_from, cons_cases, of_one, slice_get_some}
-use Rattle.hv_basic.specs.ActionRows.{AreActionRows}
+use Rattle.hv_rows.specs.ActionRows.{AreActionRows}
+use Rattle.hv_rows.specs.Rows.{IsInRow}
+use Rattle.hv_rows.proofs.Rowed.{tested_row}
 use Rattle.hv_basic.specs.Working.Asked.{with_action}
-use Rattle.hv_basic.specs.Working.Candidates.{HaveAllClashes, IsInRow}
+use Rattle.hv_basic.specs.Working.Candidates.{HaveAllClashes}
 use Rattle.hv_basic.specs.Working.Denied.{AreAbsent, AreOpen, IsAbsentFrom, HasDenial}
 use Rattle.hv_basic.specs.Working.Flags.{flag_or_false}
 use Rattle.hv_basic.proofs.Enough.{clash_in}
 use Rattle.hv_basic.proofs.Flagged.{over_at}
-use Rattle.hv_basic.proofs.Rowed.{tested_row}
 
 -- an atom that a clause denies is in no state of the formula
 pub denied_out : (clauses : List (List Literal)) (atom : ℕ) (state : List Bool)
@@ -90,14 +91,14 @@ open_in task rows flags listed are size below first has is = record {
   first = first;
   each = λ number action at none.
       let less = slice_get_within task.actions number action at in
-      let w = tested_row (atoms task) rows action.pre number (are.1 number action at) in
+      let w = tested_row (atoms task) rows action.pre number (are.each number action at) in
       elim (cons_cases (atoms task) action.pre w.0 w.1) [
         | inl last ↦
-            let rows_size = are.0 in
+            let rows_size = are.size in
             has w.0 (omega (arith, rows_size, last))
             (get_or_past flags w.0 false (omega (arith, size, last))) number w.2 less
         | inr inside ↦
-            let rows_size = are.0 in
+            let rows_size = are.size in
             let within = All-contains (λ p. p < atoms task) action.pre w.0
             (over_at task is number action at).pre inside in
             has w.0 (omega (arith, rows_size, within)) (none w.0 inside) number w.2 less

@@ -20,7 +20,7 @@ use Rattle.hv_sets.specs.declared.literal.Literal.{Literal}
 use Rattle.hv_propagation.proofs.Effects.{list_all_from}
 use Rattle.hv_explicit.proofs.Anchored.{passes_at}
 use Rattle.hv_lines.proofs.Elements.{cons_cases, nothing_in}
-use Rattle.hv_basic.specs.ActionRows.{changed_to}
+use Rattle.hv_basic.specs.ChangeRows.{changed_to}
 use Rattle.hv_basic.specs.Working.Excluded.{AreAbleAt, HaveStrangers, AreCompanions, AreLeading, AreSquare}
 use Rattle.hv_basic.specs.Working.Excluded.{IsAgainst, IsFixed, IsOfTwo, KeepsFormula, fixed_first}
 use Rattle.hv_basic.specs.Working.Excluded.{fixed_later, goes_with, has_value, parted, turned_atoms}

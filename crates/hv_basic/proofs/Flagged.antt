@@ -7,7 +7,7 @@ use Rattle.std.specs.List.{All, Contains}
 use Rattle.hv_task.specs.declared.action.Action.{Action}
 use Rattle.hv_task.specs.Strips.{IsOver, IsTask, Strips, atoms}
 use Rattle.hv_sets.specs.declared.literal.Literal.{Literal}
-use Rattle.hv_basic.specs.ActionRows.{changed_to}
+use Rattle.hv_basic.specs.ChangeRows.{changed_to}
 use Rattle.hv_basic.specs.Working.Flags.{flag_or_false}
 use Rattle.hv_basic.specs.Working.Framed.{AreFlagsFor, CanTurn, ChangesOne, IsFlagged}
 use Rattle.hv_basic.specs.Working.Framed.{sign_to}

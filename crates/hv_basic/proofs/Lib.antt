@@ -9,7 +9,6 @@ pub mod Walking
 pub mod Inquired
 pub mod Listed
 pub mod Flagging
-pub mod Rowed
 pub mod Storing
 pub mod Querying
 pub mod Growing

@@ -1,5 +1,5 @@
 pub mod Faults
-pub mod ActionRows
+pub mod ChangeRows
 pub mod Stores
 pub mod Cases
 pub mod Deciding

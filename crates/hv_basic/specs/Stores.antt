@@ -20,7 +20,8 @@ use Rattle.hv_lines.specs.declared.line.Expr.{Expr}
 use Rattle.hv_lines.specs.declared.line.Expr.TheVariants as E
 use Rattle.hv_lines.specs.declared.line.Line.{Line}
 use Rattle.hv_lines.specs.declared.line.Line.TheVariants as L
-use Rattle.hv_basic.specs.ActionRows.{AreActionRows, AreChangeRows}
+use Rattle.hv_rows.specs.ActionRows.{AreActionRows}
+use Rattle.hv_basic.specs.ChangeRows.{AreChangeRows}
 use Rattle.hv_basic.specs.declared.change_rows.ChangeRows.{ChangeRows}
 
 -- the stores of the four families that have one, what each `e` line's set is named by in the store

@@ -3,10 +3,10 @@
 ghost use Rattle.std.specs.Prelude.{◌≡◌, ℕ, length, true, IfOk, OnOk};
 ghost use Rattle.std.specs.List.{Contains};
 ghost use Rattle.hv_task.specs.State.{AreBelow};
-ghost use Rattle.hv_basic.specs.ActionRows.{AreChangeRows, AreRowsTo, changed_to};
-ghost use Rattle.hv_basic.specs.Working.Candidates.{IsInRow};
+ghost use Rattle.hv_rows.specs.Rows.{IsInRow};
+ghost use Rattle.hv_basic.specs.ChangeRows.{AreChangeRows, AreRowsTo, changed_to};
 
-use crate::action_rows::{empty_rows, enter};
+use hv_rows::{empty_rows, enter};
 use hv_task::{Action, Task};
 use std::alloc::{AllocError, Global};
 

@@ -8,7 +8,7 @@ ghost use Rattle.std.specs.List.{Contains};
 ghost use Rattle.hv_task.specs.Strips.{Strips, atoms};
 ghost use Rattle.hv_sets.specs.declared.literal.Literal.{Literal};
 ghost use Rattle.hv_lines.specs.Queries.{has_of};
-ghost use Rattle.hv_basic.specs.ActionRows.{AreActionRows};
+ghost use Rattle.hv_rows.specs.ActionRows.{AreActionRows};
 ghost use Rattle.hv_basic.specs.Cases.{lines_in, setting_in};
 ghost use Rattle.hv_basic.specs.Stores.{formula};
 ghost use Rattle.hv_basic.specs.Working.Candidates.{HaveAllClashes};

@@ -134,7 +134,6 @@
 //! rows are there, and the other rows have at most a quarter of the actions.
 #![tactic(auto)]
 
-mod action_rows;
 mod actions;
 mod acts;
 mod acts_verdicts;

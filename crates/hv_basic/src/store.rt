@@ -15,19 +15,20 @@ ghost use Rattle.hv_lines.specs.declared.formula_family.FormulaFamily.{FormulaFa
 ghost use Rattle.hv_lines.specs.declared.line.Expr.TheVariants as E;
 ghost use Rattle.hv_lines.specs.declared.line.Line.{Line};
 ghost use Rattle.hv_lines.specs.declared.line.Line.TheVariants as L;
-ghost use Rattle.hv_basic.specs.ActionRows.{AreActionRows, AreChangeRows};
+ghost use Rattle.hv_rows.specs.ActionRows.{AreActionRows};
+ghost use Rattle.hv_basic.specs.ChangeRows.{AreChangeRows};
 ghost use Rattle.hv_basic.specs.Stores.{AreChangesFor, AreRowsFor, CanBeStored, IsStoreOf};
 ghost use Rattle.hv_basic.specs.Stores.{LineCanBeStored, formula, listing};
 ghost use Rattle.hv_basic.specs.Stores.{with_expr, with_line, with_rows};
 ghost use Rattle.hv_basic.specs.Working.Stores.{IsUnstored};
 
-use crate::action_rows::action_rows;
 use crate::change_rows::{ChangeRows, change_rows};
 use hv_clauses::Formulas;
 use hv_explicit::{Explicit, Explicits};
 use hv_formula::{ClauseKind, Formula};
 use hv_horn::{DualHorns, Horns};
 use hv_lines::{Constant, Expr, Line};
+use hv_rows::action_rows;
 use hv_sets::{Clauses, StateList, Which};
 use hv_task::Task;
 use hv_twocnf::LeanTwoCnfs;

@@ -5,7 +5,7 @@ ghost use Rattle.std.specs.List.{Contains};
 ghost use Rattle.hv_task.specs.Strips.{Strips};
 ghost use Rattle.hv_task.specs.declared.action.Action.{Action};
 ghost use Rattle.hv_sets.specs.declared.literal.Literal.{Literal};
-ghost use Rattle.hv_basic.specs.ActionRows.{AreChangeRows, AreRowsTo, StandsInRow};
+ghost use Rattle.hv_basic.specs.ChangeRows.{AreChangeRows, AreRowsTo, StandsInRow};
 ghost use Rattle.hv_basic.specs.Working.Framed.{AreTurning, CanTurn, sign_to};
 
 use crate::case::Case;

@@ -18,6 +18,7 @@ use Rattle.hv_task.specs.Strips.{Strips, atoms}
 use Rattle.hv_task.proofs.Listing.{within_state}
 use Rattle.hv_task.proofs.Places.{names_atom-Decides}
 use Rattle.hv_task.proofs.Rising.{rises_apart}
+use Rattle.hv_rows.specs.Rows.{IsInRow}
 use Rattle.hv_reach.proofs.Cells.{in_both}
 use Rattle.hv_reach.proofs.Sets.{All-from_zero, rest_later, set_grows}
 use Rattle.hv_reach.proofs.Steps.{quiet_or}
@@ -28,7 +29,7 @@ use Rattle.hv_reach.specs.declared.pair_course.News.{News}
 use Rattle.hv_reach.specs.declared.pair_course.ActionStanding.{ActionStanding}
 use Rattle.hv_reach.specs.declared.pair_course.ActionStanding.TheVariants as S
 use Rattle.hv_reach.specs.declared.pair_search.PairSearch.{PairSearch}
-use Rattle.hv_reach.specs.Index.{IsActionIndex, IsIn}
+use Rattle.hv_reach.specs.Index.{IsActionIndex}
 use Rattle.hv_reach.specs.Reached.{HasPairsOf, LeavesAlone, has_pair}
 use Rattle.hv_reach.specs.Working.Course.{ArePairedBefore, IsAskedFor, IsGlance}
 use Rattle.hv_reach.specs.Working.Course.{IsLack, IsNews, IsPairSearch, IsServed, IsSpaceFor}
@@ -95,7 +96,7 @@ told_lowered n actions index row rows old new flags x news is_index at table bef
     | inl same ↦
         let less = first_within rows p q h in
         let size = table.size in
-        let one = All-contains (λ y. IsIn index y asked.0) asked.1.pre p
+        let one = All-contains (λ y. IsInRow index y asked.0) asked.1.pre p
         (is_index.has asked.0 asked.1 asked.2) asked.3 row
         (subst (λ y. slice_get index y ≡ Some row) same at) in
         let some = one.1 in

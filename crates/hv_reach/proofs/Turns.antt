@@ -13,10 +13,11 @@ use Rattle.hv_task.specs.State.{has_atom, names_atom}
 use Rattle.hv_task.proofs.Places.{has_atom-set, names_atom-Decides}
 use Rattle.hv_task.proofs.Next.{unnamed}
 use Rattle.hv_task.proofs.Listing.{within_state}
+use Rattle.hv_rows.specs.Rows.{IsInRow}
 use Rattle.hv_reach.proofs.Sets.{rest_later}
 use Rattle.hv_reach.proofs.Steps.{ready_step}
 use Rattle.hv_reach.specs.declared.pair_search.PairSearch.{PairSearch}
-use Rattle.hv_reach.specs.Index.{IsIn, IsActionIndex}
+use Rattle.hv_reach.specs.Index.{IsActionIndex}
 use Rattle.hv_reach.specs.Reached.{has_pair}
 use Rattle.hv_reach.specs.Working.Table.{HaveTheirPairs, HaveTheirPairsBut, IsPairStep, HasItsPairs}
 use Rattle.hv_reach.specs.Working.Table.{IsPairTable, IsTrigger, IsTurn, KeepAllPairs}
@@ -93,17 +94,17 @@ ready_lowered n actions index row rows flags x is_index at_row ready k a is =
       | inr w ↦
           elim (cases_eq x w.0) [
             | inl same ↦
-                let c = subst (λ y. IsIn index y k) (sym same) (in_index w.0 w.1) row at_row in
+                let c = subst (λ y. IsInRow index y k) (sym same) (in_index w.0 w.1) row at_row in
                 inr (c.0, omega arith, c.1, get_or_default row.items c.0 0 k c.1 ∙ c.2)
             | inr other ↦ inl (inr (w.0, w.1, lowered_stays flags x w.0 other w.2))
           ]
     ]
   where
-    in_index : (y : ℕ) → IsTrigger n a y → IsIn index y k
+    in_index : (y : ℕ) → IsTrigger n a y → IsInRow index y k
     in_index y trigger =
         elim trigger [
-          | inl c ↦ All-contains (λ p. IsIn index p k) a.pre y (is_index.has k a is) c
-          | inr e ↦ subst (λ z. IsIn index z k) (sym e.0) (is_index.past k a is e.1)
+          | inl c ↦ All-contains (λ p. IsInRow index p k) a.pre y (is_index.has k a is) c
+          | inr e ↦ subst (λ z. IsInRow index z k) (sym e.0) (is_index.past k a is e.1)
         ]
 
 -- after a visit of one more

@@ -12,8 +12,9 @@ use Rattle.hv_task.specs.declared.action.Action.{Action}
 use Rattle.hv_task.specs.AtomList.{IsListOf}
 use Rattle.hv_task.specs.State.{AreBelow, has_atom}
 use Rattle.hv_task.proofs.Listing.{within_state}
+use Rattle.hv_rows.specs.Rows.{IsInRow}
 use Rattle.hv_reach.proofs.Sets.{All-from_zero, missing_set, rest_later, set_cases, set_grows}
-use Rattle.hv_reach.specs.Index.{IsIn, IsActionIndex}
+use Rattle.hv_reach.specs.Index.{IsActionIndex}
 use Rattle.hv_reach.specs.Reached.{AreIn, IsWithin, Keeps}
 use Rattle.hv_reach.specs.Working.Waiting.{AreActionsSettled, AreActionsSettledBut, IsPassed}
 use Rattle.hv_reach.specs.Working.Passed.{AreZeros}
@@ -108,7 +109,7 @@ settled_pop n actions rows row held p rest passed index at h k a is =
       | inl w ↦
           elim (cases_eq (get_or a.pre (get_or passed k 0) 0) p) [
             | inl e ↦
-                let c = subst (λ x. IsIn rows x k) e (index.has k a is (get_or passed k 0) 0 w.0)
+                let c = subst (λ x. IsInRow rows x k) e (index.has k a is (get_or passed k 0) 0 w.0)
                 row at in
                 inr (c.0, omega arith, c.1, get_or_default row.items c.0 0 k c.1 ∙ c.2)
             | inr e ↦

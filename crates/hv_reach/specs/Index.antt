@@ -1,28 +1,19 @@
 -- Which actions ask for an atom.
 use Rattle.std.specs.Prelude.{◌≡◌, ◌+◌, ℕ, List, length, Some, slice_get}
-use Rattle.std.specs.List.{All, Contains}
+use Rattle.std.specs.List.{All}
 use Rattle.std.specs.Global.{Vec}
 use Rattle.hv_task.specs.declared.action.Action.{Action}
-use Rattle.hv_task.specs.State.{AreBelow}
 use Rattle.hv_task.specs.Strips.{Strips, atoms}
-
--- the number is in the row of this place
-abbrev pub IsIn : List (Vec ℕ) → ℕ → ℕ → Type 0
-IsIn rows p k = (row : Vec ℕ) → slice_get rows p ≡ Some row → Contains row.items k
-
--- each number of each row is below the bound
-abbrev pub RowsBelow : ℕ → List (Vec ℕ) → Type 0
-RowsBelow bound rows =
-    (p : ℕ) (row : Vec ℕ) → slice_get rows p ≡ Some row → AreBelow bound row.items
+use Rattle.hv_rows.specs.Rows.{IsInRow, RowsBelow}
 
 -- in the row of each atom there is each action that has it in its precondition, and in the row past
 -- the atoms there is each action without precondition
 pub record IsActionIndex (atoms : ℕ) (actions : List Action) (rows : List (Vec ℕ)) : Type 0 where
   pub size : length rows ≡ atoms + 1
   pub below : RowsBelow (length actions) rows
-  pub has : (k : ℕ) (a : Action) → slice_get actions k ≡ Some a → All (λ p. IsIn rows p k) a.pre
+  pub has : (k : ℕ) (a : Action) → slice_get actions k ≡ Some a → All (λ p. IsInRow rows p k) a.pre
   pub past : (k : ℕ) (a : Action) → slice_get actions k ≡ Some a → length a.pre ≡ 0
-      → IsIn rows atoms k
+      → IsInRow rows atoms k
 
 -- the rows are the index of the task's actions
 abbrev pub IsTaskIndex : Strips → List (Vec ℕ) → Type 0

@@ -17,10 +17,13 @@ use Rattle.hv_task.proofs.Places.{length-state_of, names_atom-Decides}
 use Rattle.hv_explicit.specs.Codes.{IsSetOf}
 use Rattle.hv_explicit.specs.ListedStates.{ListedStates, in_listing}
 use Rattle.hv_explicit.proofs.Clashes.{applies, applies_not, stands_after, stands_list}
+use Rattle.hv_lines.proofs.Elements.{cons_cases}
+use Rattle.hv_rows.specs.ActionRows.{AreActionRows}
+use Rattle.hv_rows.specs.Rows.{IsInRow}
+use Rattle.hv_rows.proofs.Rowed.{tested_row}
 use Rattle.hv_replay.specs.Closed.{IsGoalFree, state_in}
 use Rattle.hv_replay.specs.Working.Following.{StaysListed}
 use Rattle.hv_replay.specs.Logs.{LogEntry, SearchLog, StandsInLog}
-use Rattle.hv_replay.specs.Working.Waiting.{AreWaiting, IsWaitingIn}
 use Rattle.hv_replay.proofs.Followed.{same_entry}
 
 -- a list has all of these atoms exactly where its state has
@@ -115,19 +118,20 @@ module _ (task : Strips) (set : ListedStates) (held : List ℕ) (below : AreBelo
         ]
 
     -- the actions in the rows of the held atoms, and in the last row, are all that may be applicable
-    pub all_asked : (rows : List (Vec ℕ)) → AreWaiting (atoms task) task.actions rows → (least : ℕ)
-        → ((k : ℕ) → IsWaitingIn rows (atoms task) k → k < least → StaysListed task set state k)
-        → ((i : ℕ) → i < length held → (k : ℕ) → IsWaitingIn rows (get_or held i 0) k → k < least
+    pub all_asked : (rows : List (Vec ℕ)) → AreActionRows task rows → (least : ℕ)
+        → ((k : ℕ) → IsInRow rows (atoms task) k → k < least → StaysListed task set state k)
+        → ((i : ℕ) → i < length held → (k : ℕ) → IsInRow rows (get_or held i 0) k → k < least
         → StaysListed task set state k)
         → (k : ℕ) → k < least → StaysListed task set state k
     all_asked rows waits least last each k less = λ a at can.
-        elim (waits.each k a at) [
-          | inl w ↦
+        let w = tested_row (atoms task) rows a.pre k (waits.each k a at) in
+        elim (cons_cases (atoms task) a.pre w.0 w.1) [
+          | inl past ↦ last k (subst (λ p. IsInRow rows p k) (sym past) w.2) less a at can
+          | inr needed ↦
               let has : has_atom state w.0 ≡ true =
               All-contains (λ p. has_atom state p ≡ true) a.pre w.0
-              ((has_all-Decides a.pre state).0 can) w.1 in
+              ((has_all-Decides a.pre state).0 can) needed in
               let place = held_at w.0 has in
-              each place.0 place.1 k (subst (λ p. IsWaitingIn rows p k) (sym place.2) w.2) less a at
+              each place.0 place.1 k (subst (λ p. IsInRow rows p k) (sym place.2) w.2) less a at
               can
-          | inr row ↦ last k row less a at can
         ]

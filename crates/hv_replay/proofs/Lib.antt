@@ -3,7 +3,6 @@ pub mod Taken
 pub mod Fields
 pub mod Followed
 pub mod LeadingOn
-pub mod Rows
 pub mod Kept
 pub mod Exits
 pub mod Joined

@@ -5,7 +5,6 @@ pub mod Reading
 pub mod Expanded
 pub mod Following
 pub mod Leading
-pub mod Waiting
 pub mod PrunedLines
 pub mod ClosingLines
 pub mod Progress

@@ -28,7 +28,6 @@ mod open;
 mod origin;
 mod pruned;
 pub mod read;
-mod waiting;
 
 pub use fault::{LogFault, LogLimit, LogRefusal};
 pub use hole::ReplayFault;

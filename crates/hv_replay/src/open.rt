@@ -9,18 +9,19 @@ ghost use Rattle.std.specs.Prelude.{◌≡◌, ◌<◌, ◌≤◌, ◌↔◌, �
 ghost use Rattle.std.specs.List.{All, Contains};
 ghost use Rattle.hv_task.specs.State.{AreBelow, has_atom, state_of};
 ghost use Rattle.hv_task.specs.Strips.{IsState, atoms};
+ghost use Rattle.hv_rows.specs.ActionRows.{AreActionRows};
+ghost use Rattle.hv_rows.specs.Rows.{IsInRow};
 ghost use Rattle.hv_replay.specs.Closed.{IsFirstWithout, LeadsOn};
 ghost use Rattle.hv_replay.specs.Logs.{IsAtomSet};
 ghost use Rattle.hv_replay.specs.Working.Following.{HasExpanded, IsOpen, LeadAllOn, ListsLog};
 ghost use Rattle.hv_replay.specs.Working.Following.{StaysFrom, StaysListed};
 ghost use Rattle.hv_replay.specs.Working.Leading.{HasLog};
-ghost use Rattle.hv_replay.specs.Working.Waiting.{AreWaiting, IsWaitingIn};
 
 use crate::leading::leading;
 use crate::log::Log;
 use crate::origin::Origin;
-use crate::waiting::waiting;
 use hv_explicit::{Explicit, Explicits};
+use hv_rows::action_rows;
 use hv_sets::StateBuffer;
 use hv_task::{State, Task};
 use std::alloc::{AllocError, Global};
@@ -50,7 +51,7 @@ pub(crate) fn first_exit(
     if from == log.len() {
         return Ok(None);
     }
-    let rows = waiting(alloc, task)?;
+    let rows = action_rows(alloc, task)?;
     let index = ExitIndex {
         listed: sets.get(0),
         rows: &rows,
@@ -69,7 +70,7 @@ fn first_open(
 ) -> Result<Option<(usize, u32)>, AllocError>
     requires atoms { log.now.atoms ≡ atoms task.now }
     requires listed { ListsLog log.now index.now.listed.now }
-    requires rows { AreWaiting (atoms task.now) task.now.actions index.now.rows.now.items }
+    requires rows { AreActionRows task.now index.now.rows.now.items }
     requires from { from ≤ length log.now.entries }
     requires before { (place action : ℕ) → place < from → LeadsOn task.now log.now place action }
     ensures { IfOk result (IsOpen task.now log.now) }
@@ -91,7 +92,7 @@ fn first_open_by(
 ) -> Option<(usize, u32)>
     requires atoms { log.now.atoms ≡ atoms task.now }
     requires listed { ListsLog log.now index.now.listed.now }
-    requires rows { AreWaiting (atoms task.now) task.now.actions index.now.rows.now.items }
+    requires rows { AreActionRows task.now index.now.rows.now.items }
     requires asked { length asked.old.items ≡ length log.now.entries }
     requires lead { LeadAllOn task.now log.now asked.old.items }
     requires state { IsState task.now state.old }
@@ -121,7 +122,7 @@ fn open_action(
 ) -> Option<u32>
     requires atoms { log.now.atoms ≡ atoms task.now }
     requires listed { ListsLog log.now index.now.listed.now }
-    requires rows { AreWaiting (atoms task.now) task.now.actions index.now.rows.now.items }
+    requires rows { AreActionRows task.now index.now.rows.now.items }
     requires asked { length asked.old.items ≡ length log.now.entries }
     requires lead { LeadAllOn task.now log.now asked.old.items }
     requires state { IsState task.now state.old }
@@ -191,7 +192,7 @@ fn least_exit(
 ) -> Option<u32>
     requires state { IsState task.now state.old }
     requires atoms { listed.now.atoms ≡ atoms task.now }
-    requires rows { AreWaiting (atoms task.now) task.now.actions rows.now.items }
+    requires rows { AreActionRows task.now rows.now.items }
     requires held { IsAtomSet (atoms task.now) held.now }
     ensures first { MatchOption result
         ((action : ℕ) → action < length task.now.actions
@@ -221,11 +222,10 @@ fn least_exit(
 // Of the bound and the actions of a row, the least that leads to a state that isn't listed; of the
 // bound that isn't asked.
 fn least_in(origin: &Origin<'_>, rows: &Vec<Vec<u32>>, place: u32, bound: u32) -> u32
-    requires rows { AreWaiting (atoms origin.now.task.now) origin.now.task.now.actions
-        rows.now.items }
+    requires rows { AreActionRows origin.now.task.now rows.now.items }
     requires place { place ≤ atoms origin.now.task.now }
     ensures upto { result ≤ bound }
-    ensures stay { (action : ℕ) → IsWaitingIn rows.now.items place action → action < result
+    ensures stay { (action : ℕ) → IsInRow rows.now.items place action → action < result
         → StaysFrom origin.now action }
     ensures exit { result < bound → StaysFrom origin.now result → ⊥ }
 {

@@ -16,11 +16,6 @@ use Rattle.hv_lines.specs.Meaning.{acts_of}
 use Rattle.hv_lines.specs.declared.line.Line.{Line}
 use Rattle.hv_basic.specs.Working.Asked.{with_action}
 
--- the number is in the row of this place, if there is one
-abbrev pub IsInRow : List (Vec ℕ) → ℕ → ℕ → Type 0
-IsInRow rows place number =
-    (row : Vec ℕ) → slice_get rows place ≡ Some row → Contains row.items number
-
 -- the action set has every action
 abbrev pub HasEveryAction : List Line → Option ℕ → Type 0
 HasEveryAction lines set =

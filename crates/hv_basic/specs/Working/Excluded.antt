@@ -9,7 +9,7 @@ use Rattle.hv_task.specs.Strips.{Strips, atoms}
 use Rattle.hv_sets.specs.Query.{asked}
 use Rattle.hv_sets.specs.Truth.{in_clauses}
 use Rattle.hv_sets.specs.declared.literal.Literal.{Literal}
-use Rattle.hv_basic.specs.ActionRows.{changed_to}
+use Rattle.hv_basic.specs.ChangeRows.{changed_to}
 use Rattle.hv_basic.specs.Working.Framed.{sign_to}
 use Rattle.hv_basic.specs.declared.companions.Companions.{Companions}
 

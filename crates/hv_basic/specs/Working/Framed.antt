@@ -9,7 +9,7 @@ use Rattle.hv_sets.specs.Query.{asked}
 use Rattle.hv_sets.specs.declared.literal.Literal.{Literal}
 use Rattle.hv_sets.specs.declared.operand.Operand.{Operand}
 use Rattle.hv_sets.specs.declared.operand.Which.TheVariants as W
-use Rattle.hv_basic.specs.ActionRows.{changed_to}
+use Rattle.hv_basic.specs.ChangeRows.{changed_to}
 use Rattle.hv_basic.specs.Working.Flags.{flag_or_false}
 
 -- the set with this number is asked about positively at one time, which is after the action (into)

@@ -5,9 +5,10 @@ use Rattle.std.specs.List.{Contains}
 use Rattle.hv_task.specs.State.{AreBelow}
 use Rattle.hv_task.specs.Strips.{atoms}
 use Rattle.hv_lines.proofs.Elements.{nothing_in}
-use Rattle.hv_basic.specs.Working.Candidates.{AreFound, IsInRow}
+use Rattle.hv_rows.specs.Rows.{IsInRow}
+use Rattle.hv_rows.proofs.Rowed.{below_more}
+use Rattle.hv_basic.specs.Working.Candidates.{AreFound}
 use Rattle.hv_basic.proofs.Applicable.{found_in, put_state_more, row_at}
-use Rattle.hv_basic.proofs.Rowed.{below_more}
 use Rattle.hv_basic.proofs.candidates.applicable_by.Goals as goal
 
 pub loop-place-init : goal.loop-place-init

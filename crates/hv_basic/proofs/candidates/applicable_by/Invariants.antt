@@ -1,7 +1,7 @@
 use Rattle.std.proofs.Common.{◌<◌, ℕ, [], get_or, length}
 use Rattle.std.specs.List.{Contains}
 use Rattle.hv_task.specs.Strips.{atoms}
-use Rattle.hv_basic.specs.Working.Candidates.{IsInRow}
+use Rattle.hv_rows.specs.Rows.{IsInRow}
 use Rattle.hv_basic.proofs.candidates.applicable_by.Given as goal
 
 abbrev pub invariant-loop-place : goal.invariant-loop-place

@@ -1,6 +1,6 @@
 use Rattle.std.proofs.Common.{◌≡◌, ◌∙◌, arith, get_or, inr, inl, subst, sym}
 use Rattle.std.proofs.lemmas.List.{get_or_default}
-use Rattle.hv_basic.specs.Working.Candidates.{IsInRow}
+use Rattle.hv_rows.specs.Rows.{IsInRow}
 use Rattle.hv_basic.proofs.Applicable.{put_row_more, row_at}
 use Rattle.hv_basic.proofs.candidates.put_rows.Goals as goal
 

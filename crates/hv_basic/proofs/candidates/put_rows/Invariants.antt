@@ -1,6 +1,6 @@
 use Rattle.std.proofs.Common.{◌<◌, ◌⊎◌, ℕ, get_or}
 use Rattle.std.specs.List.{Contains}
-use Rattle.hv_basic.specs.Working.Candidates.{IsInRow}
+use Rattle.hv_rows.specs.Rows.{IsInRow}
 use Rattle.hv_basic.proofs.candidates.put_rows.Given as goal
 
 abbrev pub invariant-loop-atom : goal.invariant-loop-atom

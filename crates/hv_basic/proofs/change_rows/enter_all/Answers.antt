@@ -1,7 +1,8 @@
 use Rattle.std.proofs.Common.{◌≡◌, ◌∙◌, arith, get_or, inl, inr, subst}
 use Rattle.std.proofs.lemmas.Bool.{cases_lt}
 use Rattle.std.proofs.lemmas.List.{get_or_default}
-use Rattle.hv_basic.specs.Working.Candidates.{IsInRow}
+use Rattle.hv_rows.specs.Rows.{IsInRow}
+use Rattle.hv_rows.proofs.Entered.{entered_has, entered_keeps}
 use Rattle.hv_basic.proofs.change_rows.enter_all.Goals as goal
 
 pub enter-requires : goal.enter-requires
@@ -12,16 +13,21 @@ enter-requires c =
 pub loop-atom-preserved : goal.loop-atom-preserved
 loop-atom-preserved c =
     let i = c.loop-atom.invariant in
-    let e = c.in_ok-enter.ensures in
     let atoms = c.args.atoms.now in
+    let place = get_or atoms c.loop-atom.atom-index 0 in
+    let old = c.loop-atom.rows.items in
+    let new = c.enter.new.rows.items in
+    let e = c.in_ok-enter.ensures.entered in
     record {
       size = c.enter.ensures.size ∙ i.size;
-      keeps = λ p k inside. e.keeps p k (i.keeps p k inside);
+      keeps = λ p k inside. entered_keeps place c.args.number old new e p k (i.keeps p k inside);
       has = λ j less. elim (cases_lt j c.loop-atom.atom-index) [
-        | inl earlier ↦ e.keeps (get_or atoms j 0) c.args.number (i.has j earlier)
+        | inl earlier ↦ entered_keeps place c.args.number old new e (get_or atoms j 0) c.args.number
+            (i.has j earlier)
         | inr upto ↦
             let same : c.loop-atom.atom-index ≡ j = omega (arith, less, upto) in
-            subst (λ n. IsInRow c.enter.new.rows.items (get_or atoms n 0) c.args.number) same e.has
+            subst (λ n. IsInRow new (get_or atoms n 0) c.args.number) same
+            (entered_has place c.args.number old new e)
       ];
     }
 

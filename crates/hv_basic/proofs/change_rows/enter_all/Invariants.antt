@@ -1,5 +1,5 @@
 use Rattle.std.proofs.Common.{◌≡◌, ◌<◌, ℕ, get_or, length}
-use Rattle.hv_basic.specs.Working.Candidates.{IsInRow}
+use Rattle.hv_rows.specs.Rows.{IsInRow}
 use Rattle.hv_basic.proofs.change_rows.enter_all.Given as goal
 
 abbrev pub invariant-loop-atom : goal.invariant-loop-atom

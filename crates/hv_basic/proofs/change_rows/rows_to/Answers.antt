@@ -5,15 +5,15 @@ use Rattle.std.proofs.lemmas.Option.{slice_get_within}
 use Rattle.std.specs.List.{Contains}
 use Rattle.hv_task.specs.State.{AreBelow}
 use Rattle.hv_task.specs.Strips.{atoms}
-use Rattle.hv_basic.specs.ActionRows.{changed_to}
-use Rattle.hv_basic.specs.Working.Candidates.{IsInRow}
+use Rattle.hv_rows.specs.Rows.{IsInRow}
+use Rattle.hv_rows.proofs.Rowed.{in_row_true}
+use Rattle.hv_basic.specs.ChangeRows.{changed_to}
 use Rattle.hv_basic.proofs.Crossing.{changed_below, one_action}
-use Rattle.hv_basic.proofs.Rowed.{in_row_true}
 use Rattle.hv_basic.proofs.change_rows.rows_to.Goals as goal
 
 pub loop-number-init : goal.loop-number-init
 loop-number-init c = record {
-  size = c.in_ok-rows.ensures ∙ c.atoms.ensures.atoms;
+  size = c.in_ok-rows.ensures.size ∙ c.atoms.ensures.atoms;
   each = λ k action atom less. absurd (omega (arith, less));
   under = λ k action atom less. absurd (omega (arith, less));
 }

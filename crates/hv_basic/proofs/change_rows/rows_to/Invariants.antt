@@ -2,8 +2,8 @@ use Rattle.std.proofs.Common.{◌≡◌, ◌<◌, ℕ, Some, length, slice_get}
 use Rattle.std.specs.List.{Contains}
 use Rattle.hv_task.specs.Strips.{atoms}
 use Rattle.hv_task.specs.declared.action.Action.{Action}
-use Rattle.hv_basic.specs.ActionRows.{changed_to}
-use Rattle.hv_basic.specs.Working.Candidates.{IsInRow}
+use Rattle.hv_rows.specs.Rows.{IsInRow}
+use Rattle.hv_basic.specs.ChangeRows.{changed_to}
 use Rattle.hv_basic.proofs.change_rows.rows_to.Given as goal
 
 abbrev pub invariant-loop-number : goal.invariant-loop-number

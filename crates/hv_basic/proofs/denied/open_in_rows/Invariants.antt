@@ -1,6 +1,6 @@
 use Rattle.std.proofs.Common.{◌≡◌, ◌<◌, ℕ, false, length}
 use Rattle.std.specs.List.{Contains}
-use Rattle.hv_basic.specs.Working.Candidates.{IsInRow}
+use Rattle.hv_rows.specs.Rows.{IsInRow}
 use Rattle.hv_basic.specs.Working.Flags.{flag_or_false}
 use Rattle.hv_basic.proofs.denied.open_in_rows.Given as goal
 

@@ -3,7 +3,7 @@ use Rattle.std.specs.List.{Contains}
 use Rattle.hv_task.specs.Strips.{Strips}
 use Rattle.hv_task.specs.declared.action.Action.{Action}
 use Rattle.hv_sets.specs.declared.literal.Literal.{Literal}
-use Rattle.hv_basic.specs.ActionRows.{AreChangeRows}
+use Rattle.hv_basic.specs.ChangeRows.{AreChangeRows}
 use Rattle.hv_basic.specs.Working.Framed.{CanTurn}
 use Rattle.hv_basic.proofs.turned.put_clause.Given as goal
 

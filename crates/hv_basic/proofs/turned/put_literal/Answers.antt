@@ -1,5 +1,5 @@
 use Rattle.std.proofs.Common.{subst, sym}
-use Rattle.hv_basic.specs.ActionRows.{changed_to}
+use Rattle.hv_basic.specs.ChangeRows.{changed_to}
 use Rattle.std.specs.List.{Contains}
 use Rattle.hv_basic.proofs.turned.put_literal.Goals as goal
 

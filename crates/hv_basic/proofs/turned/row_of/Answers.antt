@@ -1,6 +1,6 @@
+use Rattle.hv_rows.proofs.Rowed.{is_in}
 use Rattle.hv_basic.proofs.Applicable.{row_at}
 use Rattle.hv_basic.proofs.Crossing.{no_row}
-use Rattle.hv_basic.proofs.Rowed.{is_in}
 use Rattle.hv_basic.proofs.turned.row_of.Goals as goal
 
 pub returns-in-Some : goal.returns-in-Some

@@ -2,8 +2,8 @@ use Rattle.std.proofs.Common.{◌∙◌, length, arith, subst, ap}
 use Rattle.std.specs.List.{All}
 use Rattle.std.proofs.lemmas.Option.{slice_get_within}
 use Rattle.hv_task.specs.Strips.{atoms}
+use Rattle.hv_rows.specs.Rows.{IsInRow}
 use Rattle.hv_reach.proofs.Rows.{indexed_more, past_more}
-use Rattle.hv_reach.specs.Index.{IsIn}
 use Rattle.hv_reach.proofs.index.index.Goals as goal
 
 pub loop-number-init : goal.loop-number-init
@@ -26,12 +26,12 @@ loop-number-preserved c =
           i.below;
       has = indexed_more c.loop-number.rows.items c.enter_action.new.rows.items
           c.args.task.now.actions c.loop-number.number a c.action.ensures.named e.keeps
-          (subst (λ xs. All (λ p. IsIn c.enter_action.new.rows.items p c.loop-number.number) xs)
+          (subst (λ xs. All (λ p. IsInRow c.enter_action.new.rows.items p c.loop-number.number) xs)
           c.as_slice.ensures.items e.has) i.has;
       past = past_more (atoms c.args.task.now) c.loop-number.rows.items
           c.enter_action.new.rows.items c.args.task.now.actions c.loop-number.number a
           c.action.ensures.named e.keeps
-          (λ none. subst (λ p. IsIn c.enter_action.new.rows.items p c.loop-number.number)
+          (λ none. subst (λ p. IsInRow c.enter_action.new.rows.items p c.loop-number.number)
           c.atoms-in-loop-number.ensures.atoms
           (e.past (let s = ap length c.as_slice.ensures.items in omega arith))) i.past;
     }

@@ -1,8 +1,8 @@
 use Rattle.std.proofs.Common.{◌<◌, ℕ, arith, below_more, get_or, length}
 use Rattle.hv_task.specs.State.{state_of}
 use Rattle.hv_task.specs.Strips.{atoms}
+use Rattle.hv_rows.specs.Rows.{IsInRow}
 use Rattle.hv_replay.specs.Working.Following.{StaysListed}
-use Rattle.hv_replay.specs.Working.Waiting.{IsWaitingIn}
 use Rattle.hv_replay.proofs.Exits.{all_asked, exit_more}
 use Rattle.hv_replay.proofs.open.least_exit.Goals as goal
 
@@ -18,7 +18,7 @@ loop-atom-preserved c =
     record {
       upto = let bound = i.upto in omega arith;
       last = λ action row less. i.last action row (omega arith);
-      each = below_more (λ k. (action : ℕ) → IsWaitingIn c.args.rows.now.items (get_or held k 0)
+      each = below_more (λ k. (action : ℕ) → IsInRow c.args.rows.now.items (get_or held k 0)
           action
           → action < new → P action) c.loop-atom.atom-index
           (λ k lt action row less. i.each k lt action row (omega arith))
