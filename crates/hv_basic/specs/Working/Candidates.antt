@@ -2,7 +2,6 @@
 -- a counterexample.
 use Rattle.std.specs.Prelude.{◌≡◌, ◌<◌, ◌↔◌, ℕ, Bool, true, false, List, Option, Some, length}
 use Rattle.std.specs.Prelude.{slice_get}
-use Rattle.std.specs.Global.{Vec}
 use Rattle.std.specs.List.{All, Contains}
 use Rattle.std.specs.List.Sorted.{IsStrictlyIncreasing}
 use Rattle.hv_task.specs.declared.action.Action.{Action}

@@ -16,7 +16,7 @@ loop-place-init c =
     let one = c.in_ok-put.ensures in
     let row = c.in_ok-put_row.ensures in
     let last = c.atoms.result in
-    let size = c.requires.rows.0 in
+    let size = c.requires.rows.size in
     record {
       first = λ some. row.kept 0 (one.has (omega (arith, some, c.actions-2.ensures.actions)));
       past = λ k inside less. row.has k
@@ -38,7 +38,7 @@ loop-place-init c =
 
 pub put_rows-requires : goal.put_rows-requires
 put_rows-requires c =
-    let size = c.requires.rows.0 in
+    let size = c.requires.rows.size in
     let held = c.slice-held.result.now in
     let at = get_or_from_slice_get c.args.states.now c.loop-place.place held []
     (c.get.ensures.state ∙ ap Some (sym c.slice-held.ensures.atoms)) in
