@@ -3,6 +3,8 @@
 #![tactic(auto)]
 
 #[cfg(test)]
+mod action_rows;
+#[cfg(test)]
 mod checker;
 #[cfg(test)]
 mod closed;
