@@ -3,7 +3,7 @@
 ghost use Rattle.std.specs.Prelude.{◌≡◌, ℕ, ◌+◌, ◌<◌, ◌≤◌, ◌++◌, ◌∷◌, ◌↔◌, ◌^◌, [], length, map};
 ghost use Rattle.std.specs.Prelude.{◌-◌, IfOk, OnOk, IsErrOf, IsTrue, decimal};
 ghost use Rattle.hv_task.specs.State.{AreBelow};
-ghost use Rattle.hv_task.specs.Strips.{IsOver, atoms};
+ghost use Rattle.hv_task.specs.Strips.{IsOver, IsTask, atoms};
 ghost use Rattle.hv_bound.specs.declared.fault.BoundFault.TheVariants as BoundFault;
 ghost use Rattle.hv_bound.specs.Bounded.{IsTooLarge, all_copies, amounts, bounded_task, copies};
 ghost use Rattle.hv_bound.specs.Bounded.{counter_name, free_copy, paid_copy, paid_name};
@@ -30,7 +30,6 @@ pub fn bounded(alloc: Global, task: &Task, most: u32) -> Result<Task, BoundFault
     ensures solvable { IfOk result (λ made. IsSolvable made ↔ IsSolvableWithin most task.now) }
     ensures large { IsErrOf result BoundFault.TooLarge ↔ IsTooLarge task.now most }
 {
-    let _atoms = task.atoms();
     if is_too_large(task, most) {
         return Err(BoundFault::TooLarge);
     }
@@ -39,7 +38,8 @@ pub fn bounded(alloc: Global, task: &Task, most: u32) -> Result<Task, BoundFault
 
 // Whether the made task would pass a limit of tasks.
 fn is_too_large(task: &Task, most: u32) -> bool
-    ensures { IsTrue result ↔ IsTooLarge task.now most }
+    ensures task { IsTask task.now }
+    ensures large { IsTrue result ↔ IsTooLarge task.now most }
 {
     u64::from(task.atoms()) + u64::from(most) + 1 > MOST_ATOMS
         || count_all_copies(task, most) > MOST_ACTIONS

@@ -14,7 +14,7 @@ const CHECK: &str = "check task proof";
 const TWO_STATES: &str = "@e 3 x 2 0 ; 1 ;/%";
 
 // Proofs for the key task.
-static PROOFS: [(&str, &str); 20] = [
+static PROOFS: [(&str, &str); 21] = [
     ("@e 3 x 2 0 ; 1 ;/%", "0 unsolvable"),
     ("@", "1 no conclusion"),
     (
@@ -28,6 +28,10 @@ static PROOFS: [(&str, &str); 20] = [
             "k 2 s 6 0 b1/k 3 d 6 sd 2 0/k 4 d 3 pg 1 0 3/k 5 s 1 3 b1/k 6 d 1 sd 5 4/k 7 u ci 6"
         ),
         "0 unsolvable",
+    ),
+    (
+        "# made by hand//@e 3 x 1 0 ;/%",
+        "1 line 12: false action 0 state 0 ;",
     ),
     ("@e 3 h 1 -3 0/%", "0 unsolvable"),
     (

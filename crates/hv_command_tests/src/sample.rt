@@ -43,10 +43,16 @@ fn is_accepted(alloc: Global, task: &[u8], told: &[u8]) -> Result<bool, AllocErr
     is_done(alloc, "check task proof", task, proof)
 }
 
-// Whether the proof that these words write of the task is accepted.
+// How many lines were written.
+fn count_lines(written: &[u8]) -> usize {
+    written.iter().filter(|byte| **byte == b'\n').count()
+}
+
+// Whether the proof that these words write of the task has 16 lines and is accepted.
 fn is_proved(alloc: Global, words: &str, task: &[u8]) -> Result<bool, AllocError> {
     let written = told(alloc, words, task, b"")?;
-    is_accepted(alloc, task, written.as_slice())
+    let has_lines = count_lines(written.as_slice()) == 16;
+    Ok(has_lines & is_accepted(alloc, task, written.as_slice())?)
 }
 
 // The same for both proofs of the sample.

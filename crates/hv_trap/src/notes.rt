@@ -26,11 +26,11 @@ use std::alloc::{AllocError, Global};
 
 /// The line of the note, where its set has the state.
 pub(crate) fn line_for(task: &Task, table: &Table, note: Note, state: &State) -> Option<usize>
+    requires table { IsTable table.now.lines }
     requires state { IsState task.now state.now }
     requires set { IsTrapSet task.now table.now.lines note.set }
     ensures { SomeIff result (states_in task.now table.now.lines note.set state.now) note.line }
 {
-    let _count = table.expr_count();
     let formula = negated(table, note.set);
     if are_true_in(clauses_of(table, formula), state) {
         None

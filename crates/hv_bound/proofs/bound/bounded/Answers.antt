@@ -7,7 +7,7 @@ use Rattle.hv_bound.proofs.bound.bounded.Goals as goal
 
 pub returns-clause-solvable : goal.returns-clause-solvable
 returns-clause-solvable c =
-    let task = c.atoms-atoms.ensures.task in
+    let task = c.is_too_large.ensures.task in
     subst (λ (made : Strips). IsSolvable made ↔ IsSolvableWithin c.args.most c.args.task.now)
     (sym c.in_ok-made_task.ensures) (
       within_of_plan c.args.task.now c.args.most task,

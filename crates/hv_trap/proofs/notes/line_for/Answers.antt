@@ -16,14 +16,14 @@ pub returns-then-are_true_in : goal.returns-then-are_true_in
 returns-then-are_true_in c =
     λ inside.
     both_ways (in_clauses c.clauses_of.result.now c.args.state.now)
-    (set_breaks c.args.task.now c.args.table.now.lines c.expr_count-count.ensures.table
+    (set_breaks c.args.task.now c.args.table.now.lines c.requires.table
     c.args.note.set c.negated-formula.result
     c.clauses_of.result.now c.negated-formula.ensures c.clauses_of.ensures c.args.state.now inside)
     (sym c.are_true_in.ensures ∙ c.if-are_true_in.true)
 
 pub returns-else-are_true_in : goal.returns-else-are_true_in
 returns-else-are_true_in c = (
-  breaks_set c.args.task.now c.args.table.now.lines c.expr_count-count.ensures.table c.args.note.set
+  breaks_set c.args.task.now c.args.table.now.lines c.requires.table c.args.note.set
       c.negated-formula.result
       c.clauses_of.result.now c.negated-formula.ensures c.clauses_of.ensures c.args.state.now
       (sym c.are_true_in.ensures ∙ c.if-are_true_in.false),

@@ -2,15 +2,21 @@ use Rattle.std.proofs.Common.{◌∙◌, List, Option, Some, is_some, slice_get,
 use Rattle.std.specs.Option.{IfSome, SomeIff}
 use Rattle.hv_sets.specs.declared.literal.Literal.{Literal}
 use Rattle.hv_lines.specs.Drafts.{IsGoodTable}
-use Rattle.hv_lines.specs.Numbering.{expr_count, known_count}
+use Rattle.hv_lines.specs.Numbering.{IsTable, expr_count, known_count}
 use Rattle.hv_lines.specs.Pruning.{states_in}
 use Rattle.hv_lines.specs.declared.line.Line.{Line}
 use Rattle.hv_lines.specs.declared.note.Note.{Note}
 use Rattle.hv_lines.specs.Working.Pruning.{IsOutcome}
 use Rattle.hv_trap.specs.Pruner.{IsTrapBlock, IsTrapSet, TrapCovers}
 use Rattle.hv_trap.specs.Trap.{AreTrapClauses}
+use Rattle.hv_lines.proofs.Drafting.{table_of}
 use Rattle.hv_trap.proofs.Writing.{none_noted, outcome_first, outcome_written}
 use Rattle.hv_trap.proofs.trap_pruner.trap_answer.Goals as goal
+
+pub line_for-requires-clause-table : goal.line_for-requires-clause-table
+line_for-requires-clause-table c =
+    subst IsTable (sym c.table.ensures.lines)
+    (table_of c.args.task.now c.args.draft.now.lines c.requires.good)
 
 pub line_for-requires-clause-set : goal.line_for-requires-clause-set
 line_for-requires-clause-set c =
