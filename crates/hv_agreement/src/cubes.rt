@@ -281,7 +281,8 @@ fn outside_is_right<S: Outside>(alloc: Global, set: &S, clauses: &[u32]) -> Resu
     walks_outside(alloc, set, &mut cursor, &mut cube, clauses)
 }
 
-// Whether the next step inside the set has the cube of these states.
+// Whether the next step inside the set has the cube of these states. The program walks along paths:
+// `inside_next` is there for callers.
 fn steps_inside<S: Inside>(
     alloc: Global,
     set: &S,

@@ -516,7 +516,8 @@ fn make_room<K: ClauseKind>(
     scratch.reserve(task.atoms(), 2, first + second)
 }
 
-// Asks a query of one positive and one negative operand, with the room that it wants.
+// Asks a query of one positive and one negative operand, with the room that it wants. The program
+// asks by calls that may take memory: `find_in` is there for callers.
 fn ask_in<K: ClauseKind>(
     alloc: Global,
     task: &Task,

@@ -105,6 +105,7 @@ impl Diagrams {
         requires state { length state.now ≡ self.now.atoms }
         ensures { result ≡ in_node self.now node state.now }
     {
+        // For its contract alone: the nodes are reduced.
         let _atoms = self.atoms();
         let mut at = node;
         while at >= 2 {
@@ -119,6 +120,7 @@ impl Diagrams {
         requires right { IsNode self.now right }
         ensures { IsTrue result ↔ AreOneSet self.now left right }
     {
+        // For its contract alone: the nodes are reduced.
         let _atoms = self.atoms();
         left == right
     }
@@ -129,6 +131,7 @@ impl Diagrams {
         ensures nodes { result.nodes.now ≡ self.now }
         ensures node { result.node ≡ node }
     {
+        // For its contract alone: the nodes are reduced.
         let _atoms = self.atoms();
         DiagramSet { nodes: self, node }
     }

@@ -93,6 +93,7 @@ fn walk(nodes: &Diagrams, node: u32, state: &State) -> (bool, usize)
     requires state { length state.now ≡ nodes.now.atoms }
     ensures { result.0 ≡ in_node nodes.now node state.now }
 {
+    // For its contract alone: the nodes are reduced.
     let _atoms = nodes.atoms();
     let mut count: usize = 0;
     let mut at = node;
@@ -145,6 +146,7 @@ fn list_places(nodes: &Diagrams, held: &[u32], places: &mut Vec<u32>) -> Result<
     ensures held { OnOk result
         (HoldsAt nodes.now (state_of nodes.now.atoms held.now) places.new.items) }
 {
+    // For its contract alone: the nodes are reduced.
     let _atoms = nodes.atoms();
     places.clear();
     for atom in held {

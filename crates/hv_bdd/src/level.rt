@@ -306,6 +306,7 @@ fn restrict(
     ensures below { OnOk result (AreBelowBound (length places.old.items) list.new.items) }
     ensures places { length places.new.items ≡ length places.old.items }
 {
+    // For its contract alone: the nodes are reduced.
     let _atoms = side.nodes.atoms();
     for at in 0..front.len() {
         let node = turned(side.nodes, front[at], literal);

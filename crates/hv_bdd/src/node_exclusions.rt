@@ -245,6 +245,7 @@ fn sweep(side: &NodeSide<'_>, node: u32, batch: u32, masks: &mut Vec<u64>) -> Re
     ensures masks { OnOk result
         (AreMasks side.now.nodes.now side.now.inside batch masks.new.items) }
 {
+    // For its contract alone: the nodes are reduced.
     let _atoms = side.nodes.atoms();
     masks.clear();
     for lesser in 0..node + 1 {
@@ -261,6 +262,7 @@ fn mask_of(side: &NodeSide<'_>, node: u32, batch: u32, masks: &[u64]) -> u64
     requires masks { AreMasks side.now.nodes.now side.now.inside batch masks.now }
     ensures { IsMask side.now.nodes.now side.now.inside batch node result }
 {
+    // For its contract alone: the nodes are reduced.
     let _atoms = side.nodes.atoms();
     if node < 2 {
         let good = side.inside as u32;

@@ -59,6 +59,7 @@ impl Fronts {
         ensures none { IfOk result (λ none. none ≡ true
             → IsMetNowhere side.now.nodes.now side.now.inside node literals.now) }
     {
+        // For its contract alone: the nodes are reduced.
         let _atoms = side.nodes.atoms();
         for place in self.reached..literals.len() {
             let literal = literals[place];

@@ -171,6 +171,7 @@ impl<'a> NodeInquiry<'a> {
             (atoms self.now.task) (is_clash self.now.task (in_node self.now.list) query.now)
             state }
     {
+        // For its contract alone: the nodes are reduced.
         let _atoms = self.nodes.atoms();
         let needed = needed_by(self.task, query.action);
         let changed = changed_by(self.task, query.action);
@@ -230,6 +231,7 @@ fn search_for<'a>(
     ensures reduced { IsReduced nodes.now }
     ensures task { IsTask task.now }
 {
+    // For its contract alone: the nodes are reduced.
     let _atoms = nodes.atoms();
     let atoms = task.atoms();
     let goal = Goal {

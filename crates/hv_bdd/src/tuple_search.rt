@@ -306,6 +306,7 @@ impl Search<'_> {
         requires { IsAskable self.now.setting which }
         ensures { result ≡ root self.now.setting which }
     {
+        // For its contract alone: the setting is one.
         let _atoms = self.atoms();
         match which {
             Which::Empty => 0,

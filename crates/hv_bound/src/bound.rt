@@ -130,6 +130,7 @@ fn with_atom(alloc: Global, set: &AtomList, atom: u32) -> Result<AtomList, Alloc
     requires { AreBelow atom set.now }
     ensures { IfOk result (λ list. list ≡ set.now ++ atom ∷ []) }
 {
+    // For its contract alone: the list rises.
     let _len = set.len();
     let mut list = set.copy(alloc)?;
     list.insert(atom)?;
@@ -172,6 +173,7 @@ fn add_paid_copies(
           ++ map (paid_copy first_counter number action.now) (amounts action.now.cost most);
     }) }
 {
+    // For its contract alone: the task is one.
     let _atoms = made.atoms();
     for left in action.cost..most + 1 {
         made.add_action(paid_copy(alloc, first_counter, number, action, left)?)?;

@@ -17,6 +17,7 @@ pub fn laws_of_cost_bounds(task: &Task, most: u32)
     ensures costs_more { IsUnsolvable (bounded_task task.now most)
         → (list : List ℕ) → Solves task.now list → most < cost_of_list task.now list }
 {
+    // For its contract alone: the task is one.
     let _atoms = task.atoms();
 }
 

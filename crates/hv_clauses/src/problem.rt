@@ -250,6 +250,7 @@ impl<'a, K: ClauseKind> Problem<'a, K> {
             (width self.now) }
         ensures wide { length self.now.effect ≡ width self.now }
     {
+        // For its contract alone: the task is one.
         let _atoms = self.task.atoms();
         self.store.completion()
     }

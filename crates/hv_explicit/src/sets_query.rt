@@ -729,6 +729,7 @@ fn is_start<A: Sought>(task: &Task, held: &A) -> bool
     ensures same { IsTrue result ↔ IsSame (A.has held.now) task.now.start }
     ensures below { AreBelow (atoms task.now) task.now.start }
 {
+    // For its contract alone: the task is one.
     let _atoms = task.atoms();
     held.is(task.start().as_slice())
 }

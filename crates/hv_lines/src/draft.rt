@@ -103,6 +103,7 @@ impl Draft {
         ensures spare { self.new.spare + 1 ≡ self.old.spare }
         ensures good { IsGoodTable task.now self.new.lines }
     {
+        // For its contract alone: the task is one.
         let _atoms = task.atoms();
         let id = id_of(&line);
         match self.table.push(line) {

@@ -49,7 +49,8 @@ fn six_sets(alloc: Global) -> Result<Table, Fail> {
     Ok(table)
 }
 
-// Whether there is a set for each flag, and it is a literal exactly where the flag says so.
+// Whether there is a set for each flag, and it is a literal exactly where the flag says so. The
+// program itself doesn't ask this: `is_literal` is there for callers.
 fn are_literals(table: &Table, literals: &[bool]) -> bool {
     let mut alike = table.expr_count() == literals.len();
     for (id, is_literal) in literals.iter().enumerate() {

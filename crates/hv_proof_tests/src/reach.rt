@@ -12,7 +12,8 @@ use std::test::Fail;
 /// An atom that is added and deleted stays.
 const STAYS: &[Change] = &[(&[0], &[0, 1], &[0]), (&[], &[2], &[1])];
 
-// The atoms that are reached, as bits.
+// The atoms that are reached, as bits. The program writes proofs by them and doesn't list them:
+// `reached_atoms` and `reached_pairs` are there for callers.
 fn atoms_reached(alloc: Global, task: &Task, state: &State) -> Result<u32, AllocError>
     requires { IsState task.now state.now }
 {

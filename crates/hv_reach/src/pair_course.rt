@@ -200,6 +200,7 @@ fn list_news(row: &State, told: &State, news: &mut News)
         → (has_atom told.now q ≡ true) ⊎ IsNews news.new q }
     ensures below { AreNewsBelow (length row.now) news.new }
 {
+    // For its contract alone: a number of atoms fits a word.
     let _atoms = row.atoms();
     let mut from = 0;
     while let Some(atom) = row.next_outside(told, from) {

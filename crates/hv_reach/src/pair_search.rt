@@ -180,6 +180,7 @@ fn sweep(task: &Task, index: &Vec<Vec<u32>>, search: &mut PairSearch) -> bool
         → has_atom search.new.flags x ≡ false }
     ensures search { IsPairSearch task.now search.new }
 {
+    // For its contract alone: the task is one.
     let _atoms = task.atoms();
     let mut moved = false;
     let mut from = 0;

@@ -58,6 +58,7 @@ fn proof_by(alloc: Global, task: &Task, reached: &State) -> Result<Draft, AllocE
     ensures good { IfOk result (λ draft. IsGoodTable task.now draft.lines) }
     ensures concludes { IfOk result (λ draft. Concludes draft.lines) }
 {
+    // For its contract alone: the task is one.
     let _atoms = task.atoms();
     let clauses = relaxed_formula(alloc, reached)?;
     let draft = horn_proof(alloc, task, clauses)?;

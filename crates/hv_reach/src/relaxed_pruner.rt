@@ -157,6 +157,7 @@ fn relaxed_answer(
     ensures err_reached { OnErr result (noted.new.rows.rows ≡ noted.old.rows.rows) }
     ensures search { search.new ≡ search.old }
 {
+    // For its contract alone: the task is one.
     let _atoms = task.atoms();
     state.list_atoms(&mut noted.held)?;
     let told = first_noted(alloc, task, draft, noted, state, noted.held.as_slice())?;

@@ -67,6 +67,7 @@ pub(crate) fn line_of(log: &Log, place: usize) -> u64
     requires { place < length log.now.entries }
     ensures { result ≡ place + 1 }
 {
+    // For its contract alone: a number of entries fits a word.
     let _within = place < log.len();
     place as u64 + 1
 }

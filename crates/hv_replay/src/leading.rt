@@ -156,6 +156,7 @@ fn expanded_between(alloc: Global, log: &Log, part: LogPart) -> Result<StateList
     ensures lists { IfOk result (ListsExpanded log.now part) }
 {
     let mut states = StateList::new(alloc);
+    // For its contract alone: the states are those of a log.
     let _log = log.states();
     for place in part.from..part.upto {
         put_expanded(log, place, &mut states)?;

@@ -8,7 +8,9 @@
 //!
 //! A log is followed action by action (`leading`), by a store of explicit sets (`log_query`). Where
 //! an action leads out, `leading` halves the log, and `open` asks the few entries that are left,
-//! each by itself.
+//! each by itself; `origin` has the states of which it is asked, and `hole` says why a log is no
+//! proof. A log is read by `read`, line by line (`log_line`, `entries`, `log_counts`). `expanded`
+//! lists the states of its proof, `closing` ends it, and `boxes` asks several pruners in order.
 #![tactic(auto)]
 
 mod boxes;

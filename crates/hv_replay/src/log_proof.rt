@@ -151,7 +151,9 @@ fn put_end(
     requires progress { IsProgress task.now (pruned_in log.now.entries) draft.old.lines union }
     ensures { OnOk result (IsProof task.now log.now draft.new.lines) }
 {
+    // For its contract alone: the task is one.
     let _atoms = task.atoms();
+    // For its contract alone: a number of lines fits a word.
     let _spare = draft.spare();
     let states = expanded_states(alloc, log)?;
     push_closing(alloc, draft, task, states, union)

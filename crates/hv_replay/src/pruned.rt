@@ -55,6 +55,7 @@ pub(crate) fn push_pruned(
         → states_in task.now draft.new.lines all.set state) }
     ensures err { OnErr result (draft.new.lines ≡ draft.old.lines) }
 {
+    // For its contract alone: the task is one.
     let _atoms = task.atoms();
     draft.reserve(5)?;
     let next = next_in(draft.table());

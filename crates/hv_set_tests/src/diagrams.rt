@@ -614,7 +614,8 @@ fn live_tuples_are_counted_before_a_state_is_answered(rt: HostRuntime) -> Result
     Ok(())
 }
 
-// Whether there are eight nodes, and just those of one number are one set.
+// Whether there are eight nodes, and just those of one number are one set. The program compares
+// numbers of nodes: `same` is there for callers.
 fn are_told_apart(list: &Diagrams) -> bool {
     if list.count() != 8 {
         return false;
@@ -674,7 +675,8 @@ fn outside_walk<S: Outside>(alloc: Global, set: &S, state: &State) -> Result<(u6
     Ok((having, 20))
 }
 
-// The same of the walk over the set.
+// The same of the walk over the set. The program walks along paths: `inside_next` is there for
+// callers.
 fn inside_walk<S: Inside>(alloc: Global, set: &S, state: &State) -> Result<(u64, u64), AllocError>
     requires { S.atoms set.now ≡ length state.now }
 {

@@ -164,6 +164,7 @@ impl State {
         ensures listed { OnOk result (IsListOf self.now held.new.items) }
     {
         held.clear();
+        // For its contract alone: a number of atoms fits a word.
         let _atoms = self.atoms();
         let mut hint = Hint::default();
         let mut from = 0;

@@ -79,6 +79,7 @@ impl Task {
         requires { AreBelow (atoms self.old) start }
         ensures { self.new ≡ record self.old { start = start } }
     {
+        // For its contract alone: the list rises.
         let _len = start.len();
         self.start = start;
     }
@@ -88,6 +89,7 @@ impl Task {
         requires { AreBelow (atoms self.old) goal }
         ensures { self.new ≡ record self.old { goal = goal } }
     {
+        // For its contract alone: the list rises.
         let _len = goal.len();
         self.goal = goal;
     }

@@ -262,7 +262,8 @@ static PLANS: [(&[u32], bool); 5] = [
     (&[5], false),
 ];
 
-// Whether the task has just these plans.
+// Whether the task has just these plans. The program itself doesn't try lists of actions in this
+// way: `solves` is there for callers.
 fn has_plans(alloc: Global, task: &Task) -> Result<bool, AllocError> {
     let mut right = true;
     for (list, plan) in &PLANS {
