@@ -9,6 +9,8 @@ mod checker;
 #[cfg(test)]
 mod closed;
 #[cfg(test)]
+mod decide;
+#[cfg(test)]
 mod explain;
 #[cfg(test)]
 mod lines;
