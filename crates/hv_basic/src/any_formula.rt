@@ -6,8 +6,7 @@ ghost use Rattle.hv_sets.specs.declared.operand.Which.TheVariants as S;
 ghost use Rattle.hv_lines.specs.Numbering.{expr_at};
 ghost use Rattle.hv_lines.specs.Shapes.{IsOfFamily};
 ghost use Rattle.hv_lines.specs.declared.formula_family.FormulaFamily.{FormulaFamily};
-ghost use Rattle.hv_basic.specs.Working.Formulas.{IsFormulaOn, expr_of, formula_atoms};
-ghost use Rattle.hv_basic.specs.Working.Formulas.{formula_has};
+ghost use Rattle.hv_basic.specs.Working.Formulas.{IsFormulaOn, expr_of};
 ghost use Rattle.hv_basic.specs.Cases.{lines_in};
 
 use crate::case::Case;
@@ -16,10 +15,8 @@ use hv_bdd::DiagramSet;
 use hv_explicit::Explicit;
 use hv_horn::{DualHorn, Horn};
 use hv_lines::Expr;
-use hv_sets::{Cube, Scratch, StateSet, Which};
-use hv_task::State;
+use hv_sets::Which;
 use hv_twocnf::LeanTwoCnf;
-use std::alloc::{AllocError, Global};
 
 /// A formula of one of the five families.
 #[derive(Clone, Copy)]
@@ -29,32 +26,6 @@ pub(crate) enum AnyFormula<'a> {
     Two(&'a LeanTwoCnf),
     States(&'a Explicit),
     Node(DiagramSet<'a>),
-}
-
-impl StateSet for AnyFormula<'_> {
-    ghost atoms = { formula_atoms };
-
-    ghost has = { formula_has };
-
-    fn holds(&self, state: &State) -> bool {
-        match self {
-            AnyFormula::Horn(set) => set.holds(state),
-            AnyFormula::Dual(set) => set.holds(state),
-            AnyFormula::Two(set) => set.holds(state),
-            AnyFormula::States(set) => set.holds(state),
-            AnyFormula::Node(set) => set.holds(state),
-        }
-    }
-
-    fn meets(&self, alloc: Global, cube: &Cube, scratch: &mut Scratch) -> Result<bool, AllocError> {
-        match self {
-            AnyFormula::Horn(set) => set.meets(alloc, cube, scratch),
-            AnyFormula::Dual(set) => set.meets(alloc, cube, scratch),
-            AnyFormula::Two(set) => set.meets(alloc, cube, scratch),
-            AnyFormula::States(set) => set.meets(alloc, cube, scratch),
-            AnyFormula::Node(set) => set.meets(alloc, cube, scratch),
-        }
-    }
 }
 
 /// The formula of the set, from the store of its family.
