@@ -86,8 +86,7 @@ impl Model for Shared {
 }
 
 impl Shared {
-    ghost use Rattle.std.specs.Prelude.{List, ◌∷◌, IfOk};
-    ghost use Rattle.hv_lines.specs.Numbering.{MayFollow};
+    ghost use Rattle.std.specs.Prelude.{List, IfOk};
     ghost use Rattle.hv_lines.specs.declared.line.Line.{Line};
     ghost use Rattle.hv_basic.specs.Sharing.{IsShared};
 
@@ -103,13 +102,6 @@ impl Shared {
             scratch: Scratch::new(alloc)?,
         })
     }
-
-    /// Does nothing: its contract states that what is kept for some lines is right for them with a
-    /// further line too.
-    pub fn stays(&self)
-        ensures { (lines : List Line) (line : Line) → MayFollow lines line
-            → IsShared lines self.now → IsShared (line ∷ lines) self.now }
-    {}
 }
 
 /// A side of which nothing is kept.

@@ -160,7 +160,6 @@ impl Judge<'_> {
         ensures ok { OnOk result (self.new.lines ≡ line ∷ self.old.lines) }
         ensures err { OnErr result (self.new.lines ≡ self.old.lines) }
     {
-        self.shared.stays();
         self.table.push(line)?;
         Ok(())
     }
@@ -172,7 +171,6 @@ impl Judge<'_> {
         ensures ok { OnOk result (self.new.lines ≡ line ∷ self.old.lines) }
         ensures err { OnErr result (self.new.lines ≡ self.old.lines) }
     {
-        self.shared.stays();
         self.table.reserve(1)?;
         self.store.add_line(self.task, &line)?;
         self.table.push(line)?;

@@ -3,6 +3,7 @@ use Rattle.hv_lines.specs.Good.{IsGood}
 use Rattle.hv_lines.specs.Order as O
 use Rattle.hv_lines.specs.Setting.{setting_of}
 use Rattle.hv_lines.proofs.Reasons.{good_next}
+use Rattle.hv_basic.proofs.KeptLeaves.{shared_more}
 use Rattle.hv_checker.specs.Working.Judge.{JudgeState}
 use Rattle.hv_checker.proofs.Judges.{judge_more, judge_same, stored_alone}
 use Rattle.hv_checker.proofs.piece_judge.Judge.keep_alone.Goals as goal
@@ -32,7 +33,7 @@ invariant_of-self-2 c =
     c.in_ok-push.ensures.ok good
     (stored_alone c.self.inside.task.now c.self.inside.table.lines c.self.inside.store c.args.line
     c.requires.no_set c.self.invariant.stored (good O.Number))
-    (c.stays.ensures c.self.inside.table.lines c.args.line)
+    (shared_more c.args.line c.self.inside.table.lines c.self.inside.shared)
 
 pub returns-clause-ok : goal.returns-clause-ok
 returns-clause-ok c =

@@ -4,6 +4,7 @@ use Rattle.hv_lines.specs.Numbering.{MayFollow}
 use Rattle.hv_lines.specs.Order as O
 use Rattle.hv_lines.specs.Setting.{setting_of}
 use Rattle.hv_lines.proofs.Reasons.{good_next}
+use Rattle.hv_basic.proofs.KeptLeaves.{shared_more}
 use Rattle.hv_checker.specs.Working.Judge.{JudgeState}
 use Rattle.hv_checker.proofs.Judges.{judge_more, judge_same}
 use Rattle.hv_checker.proofs.GoodLines.{line_stored}
@@ -52,7 +53,7 @@ invariant_of-self-2 c =
     c.add_line.new.self c.self.inside.shared c.self.invariant c.args.line
     (c.in_ok-push.ensures.ok ∙ ap (λ ls. c.args.line ∷ ls) c.in_ok-reserve.ensures.lines) good
     (c.in_ok-add_line.ensures.stands c.self.inside.table.lines c.self.invariant.stored
-    (good O.Number)) (c.stays.ensures c.self.inside.table.lines c.args.line)
+    (good O.Number)) (shared_more c.args.line c.self.inside.table.lines c.self.inside.shared)
 
 pub returns-in_err-push-clause-err : goal.returns-in_err-push-clause-err
 returns-in_err-push-clause-err c = absurd
