@@ -21,7 +21,7 @@ use Rattle.hv_propagation.proofs.Effects.{list_all_from}
 use Rattle.hv_explicit.proofs.Anchored.{passes_at}
 use Rattle.hv_lines.proofs.Elements.{cons_cases, nothing_in}
 use Rattle.hv_basic.specs.ChangeRows.{changed_to}
-use Rattle.hv_basic.specs.Working.Excluded.{AreAbleAt, HaveStrangers, AreCompanions, AreLeading, AreSquare}
+use Rattle.hv_basic.specs.Working.Excluded.{AreAbleAt, AreCompanions, AreLeading, AreSquare}
 use Rattle.hv_basic.specs.Working.Excluded.{IsAgainst, IsFixed, IsOfTwo, KeepsFormula, fixed_first}
 use Rattle.hv_basic.specs.Working.Excluded.{fixed_later, goes_with, has_value, parted, turned_atoms}
 use Rattle.hv_basic.specs.Working.Framed.{AreCrossing, sign_to}
@@ -43,33 +43,9 @@ module _ (rows : List (List Bool)) (p q : ℕ) (p_in : p < length rows)
     row_of_other : (a : ℕ) → (p ≡ a → ⊥) → get_or (parted rows p q) a [] ≡ get_or rows a []
     row_of_other a differs = get_or-set_other rows p a row [] (λ f. differs (sym f))
 
-    flag_of_same : has_atom row q ≡ false
-    flag_of_same = get_or-set_at (get_or rows p []) q q false false refl q_in
-
     flag_of_other : (b : ℕ) → (q ≡ b → ⊥) → has_atom row b ≡ goes_with rows p b
     flag_of_other b differs =
         get_or-set_other (get_or rows p []) q b false false (λ f. differs (sym f))
-
-    pub parted_out : goes_with (parted rows p q) p q ≡ false
-    parted_out = ap (λ r. has_atom r q) row_of_same ∙ flag_of_same
-
-    in_same_kept : (b : ℕ) → goes_with rows p b ≡ false → has_atom row b ≡ false
-    in_same_kept b off =
-        elim (cases_eq q b) [
-          | inl e ↦ subst (λ n. has_atom row n ≡ false) e flag_of_same
-          | inr differs ↦ flag_of_other b differs ∙ off
-        ]
-
-    pub parted_kept : (a b : ℕ) → goes_with rows a b ≡ false
-        → goes_with (parted rows p q) a b ≡ false
-    parted_kept a b off =
-        elim (cases_eq p a) [
-          | inl e ↦
-              subst (λ n. goes_with (parted rows p q) n b ≡ false) e
-              (ap (λ r. has_atom r b) row_of_same
-              ∙ in_same_kept b (subst (λ n. goes_with rows n b ≡ false) (sym e) off))
-          | inr differs ↦ ap (λ r. has_atom r b) (row_of_other a differs) ∙ off
-        ]
 
     pub parted_only : (a b : ℕ) → goes_with (parted rows p q) a b ≡ false
         → (goes_with rows a b ≡ false) ⊎ ((p ≡ a) × (q ≡ b))
@@ -136,12 +112,6 @@ module _ (rows : List (List Bool)) (clause : List Literal) (d e : Literal) (squa
     abbrev last : Literal
     last = get_or clause (length clause - 1) e
 
-    first_in : Contains clause first
-    first_in = Contains-get_or clause 0 d some
-
-    last_in : Contains clause last
-    last_in = Contains-get_or clause (length clause - 1) e (omega (arith, some))
-
     first_in_rows : first.atom < length rows
     first_in_rows = below 0 d some
 
@@ -169,35 +139,6 @@ module _ (rows : List (List Bool)) (clause : List Literal) (d e : Literal) (squa
     in_last : first.atom < length (get_or once last.atom [])
     in_last = subst (λ n. first.atom < n) (sym (once_square last.atom once_last ∙ once_size))
         first_in_rows
-
-    pub twice_size : length twice ≡ length rows
-    twice_size = parted_size once last.atom first.atom once_last in_last ∙ once_size
-
-    pub twice_square : AreSquare twice
-    twice_square = parted_square once last.atom first.atom once_last in_last once_square
-
-    pub twice_kept : (a b : ℕ) → goes_with rows a b ≡ false → goes_with twice a b ≡ false
-    twice_kept a b off =
-        parted_kept once last.atom first.atom once_last in_last a b
-        (parted_kept rows first.atom last.atom first_in_rows in_first a b off)
-
-    pub twice_apart : HaveStrangers twice clause
-    twice_apart l among =
-        elim (ends clause d e few l among) [
-          | inl same ↦ (
-            last,
-            last_in,
-            subst (λ (x : Literal). goes_with twice x.atom last.atom ≡ false) same
-                (parted_kept once last.atom first.atom once_last in_last first.atom last.atom
-                (parted_out rows first.atom last.atom first_in_rows in_first)),
-          )
-          | inr same ↦ (
-            first,
-            first_in,
-            subst (λ (x : Literal). goes_with twice x.atom first.atom ≡ false) same
-                (parted_out once last.atom first.atom once_last in_last),
-          )
-        ]
 
     of_ends : (a b : ℕ) → first.atom ≡ a → last.atom ≡ b → IsOfTwo clause a b
     of_ends a b f g l among =
@@ -504,12 +445,6 @@ pub first_below : (n : ℕ) (value into : Bool) (action : Action) → IsOver n a
 first_below n value true action over = changed_below n value action over
 first_below n true false action over = over.pre
 first_below n false false action over = λ k d less. absurd (omega (arith, less))
-
-pub later_below : (n : ℕ) (value into : Bool) (action : Action) → IsOver n action
-    → AreBelow n (fixed_later value into action)
-later_below n value false action over = changed_below n (not value) action over
-later_below n true true action over = λ k d less. absurd (omega (arith, less))
-later_below n false true action over = over.pre
 
 -- the actions that don't keep the formula are all that lead into it, or out of it
 pub crossing_leading : (task : Strips) (clauses : List (List Literal)) (into : Bool)

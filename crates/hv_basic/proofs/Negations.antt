@@ -13,14 +13,13 @@ use Rattle.hv_lines.specs.Literals.{IsLiteral, IsNegatedSet}
 use Rattle.hv_lines.specs.Shapes.{Askings, IsLiteralOf, IsWithinFamily}
 use Rattle.hv_lines.specs.declared.formula_family.FormulaFamily.{FormulaFamily}
 use Rattle.hv_lines.specs.declared.line.Line.{Line}
-use Rattle.hv_lines.proofs.Elements.{all_from, in_mapped, nothing_in}
+use Rattle.hv_lines.proofs.Elements.{all_from, in_mapped}
 use Rattle.hv_basic.specs.Leaves.{IsItsFamily, IsLeafRead, places}
 use Rattle.hv_basic.specs.Sharing.{AreEnoughFor, AreNegations, IsAgainstSet, IsNegatedFamily}
 use Rattle.hv_basic.specs.Sharing.{IsNegatedIn, IsNoFormula, IsPlainSide, NamesLiteral}
 use Rattle.hv_basic.specs.Working.Gathered.{IsThe}
-use Rattle.hv_basic.specs.Working.Sharing.{AreAskedBeside, IsAddedTo, IsFamilyWith}
+use Rattle.hv_basic.specs.Working.Sharing.{IsAddedTo, IsFamilyWith}
 use Rattle.hv_basic.specs.declared.shared.Kept.{Kept}
-use Rattle.hv_basic.specs.declared.signed_sets.Asking.{Asking}
 use Rattle.hv_basic.specs.declared.signed_sets.Leaf.{Leaf}
 use Rattle.hv_basic.specs.declared.signed_sets.SignedSet.{SignedSet}
 use Rattle.hv_basic.proofs.Within.{map_has}
@@ -193,15 +192,3 @@ negation_side lines kept enough more leaf literal both side found sign read with
 pub negations_read : (lines : List Line) (leaves : List Leaf) → AreNegations lines leaves
     → All (IsLeafRead lines) leaves
 negations_read lines leaves are = all_from (IsLeafRead lines) leaves (λ leaf c. (are leaf c).1)
-
--- where no negation is kept the left side asks all
-pub none_beside : (lines : List Line) (kept : Kept) (asked : List Asking)
-    → kept.negations.items ≡ [] → AreAskedBeside lines kept asked asked
-none_beside lines kept asked none asking = (
-  λ c. inl c,
-  elim [
-    | inl c ↦ c
-    | inr given ↦ absurd (nothing_in given.0
-        (subst (λ ls. Contains (places ls) given.0) none given.1))
-  ],
-)

@@ -288,11 +288,3 @@ negative_below lines table q over k d below =
     let a : ℕ × Bool = get_or q.negative k d in
     asked_exprs lines table over.word over.left over.right q over.is a
     (inr (Contains-get_or q.negative k d below))
-
--- and so has what its left side asks for
-pub positive_below : (lines : List Line) → IsTable lines → (q : QuestionState)
-    → IsQuestionOver lines q → All (λ a. a.0 < expr_count lines) q.positive
-positive_below lines table q over k d below =
-    let a : ℕ × Bool = get_or q.positive k d in
-    asked_exprs lines table over.word over.left over.right q over.is a
-    (inl (Contains-get_or q.positive k d below))
