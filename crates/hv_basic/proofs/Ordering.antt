@@ -168,9 +168,8 @@ module _ (askings : List Asking) (positive : Bool) (i : ℕ) (within : i < lengt
           ],
     )
 
--- a list from the last to the first
-
-before_trans : (a b c : ℕ × Bool) → AskedBefore a b → AskedBefore b c → AskedBefore a c
+-- of three, where the first comes before the second and that before the third, so does the first
+pub before_trans : (a b c : ℕ × Bool) → AskedBefore a b → AskedBefore b c → AskedBefore a c
 before_trans a b c (inl less) (inl more) = inl (omega (arith, less, more))
 before_trans a b c (inl less) (inr (same, _, _)) = inl (omega (arith, less, same))
 before_trans a b c (inr (same, _, _)) (inl less) = inl (omega (arith, same, less))

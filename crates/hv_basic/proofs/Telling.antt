@@ -39,6 +39,7 @@ use Rattle.hv_basic.specs.declared.signed_sets.SignedSet.{SignedSet}
 use Rattle.hv_basic.proofs.Gathering.{family_once}
 use Rattle.hv_basic.proofs.LeftSides.{question_by}
 use Rattle.hv_basic.proofs.Literals.{enough_decided}
+use Rattle.hv_basic.proofs.Ordering.{before_trans}
 use Rattle.hv_basic.proofs.Within.{map_has, offered, own_decided, passes_out, ways_are}
 
 -- what is asked about, put in order
@@ -81,13 +82,6 @@ first_of : (x : ℕ × Bool) (xs : Askings) → AskingsRise (x ∷ xs) → (y : 
     → Contains xs y → AskedBefore x y
 first_of x xs rises y c =
     rises 0 (suc c.0) x y (omega arith) refl (slice_get-get_or xs c.0 y c.1 ∙ ap Some c.2)
-
-before_trans : (a b c : ℕ × Bool) → AskedBefore a b → AskedBefore b c → AskedBefore a c
-before_trans a b c (inl less) (inl more) = inl (omega (arith, less, more))
-before_trans a b c (inl less) (inr (same, _, _)) = inl (omega (arith, less, same))
-before_trans a b c (inr (same, _, _)) (inl less) = inl (omega (arith, same, less))
-before_trans a b c (inr (_, _, is)) (inr (_, other, _)) =
-    let both : true ≡ false = sym is ∙ other in absurd cc
 
 -- what rises, with one more
 record IsPutIn (asked : Askings) (a : ℕ × Bool) (new : Askings) : Type 0 where
