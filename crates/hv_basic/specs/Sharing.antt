@@ -187,7 +187,8 @@ pub record AreItsFlags (lines : List Line) (kept : FlaggedActs) : Type 0 where
 pub record AreItsLeaves (lines : List Line) (kept : KeptLeaves) : Type 0 where
   pub table : IsTable lines
   pub below : kept.root < expr_count lines
-  pub leaves : (leaf : ℕ) → Contains (places kept.leaves.items) leaf ↔ IsAndLeaf lines kept.root leaf
+  pub leaves : (leaf : ℕ)
+      → Contains (places kept.leaves.items) leaf ↔ IsAndLeaf lines kept.root leaf
   pub read : All (IsLeafRead lines) kept.leaves.items
 
 -- the family of a joint formula

@@ -37,7 +37,8 @@ goes_with rows first second = has_atom (slice_index_or rows first []) second
 
 -- the rows without the second atom in that of the first
 abbrev pub parted : List (List Bool) → ℕ → ℕ → List (List Bool)
-parted rows first second = slice_set rows first (slice_set (slice_index_or rows first []) second false)
+parted rows first second =
+    slice_set rows first (slice_set (slice_index_or rows first []) second false)
 
 -- each row has as many flags as there are rows
 abbrev pub AreSquare : List (List Bool) → Type 0

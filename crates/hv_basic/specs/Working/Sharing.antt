@@ -38,13 +38,15 @@ AreOtherFamilies _ _ = ⊥
 -- how many of what is asked about, which rises, have lesser identifiers
 abbrev pub IsSplitAt : Askings → ℕ → ℕ → Type 0
 IsSplitAt asked set place =
-    (place ≤ length asked) × ((k : ℕ) (d : ℕ × Bool) → k < place → (slice_index_or asked k d).0 < set)
+    (place ≤ length asked)
+    × ((k : ℕ) (d : ℕ × Bool) → k < place → (slice_index_or asked k d).0 < set)
     × ((k : ℕ) (d : ℕ × Bool) → place ≤ k → k < length asked → set ≤ (slice_index_or asked k d).0)
 
 -- the place at which the set belongs among what is asked about, where it isn't there
 abbrev pub IsPlaceFor : Askings → ℕ → ℕ → Type 0
 IsPlaceFor asked set place =
-    (place ≤ length asked) × ((k : ℕ) (d : ℕ × Bool) → k < place → (slice_index_or asked k d).0 < set)
+    (place ≤ length asked)
+    × ((k : ℕ) (d : ℕ × Bool) → k < place → (slice_index_or asked k d).0 < set)
     × ((k : ℕ) (d : ℕ × Bool) → place ≤ k → k < length asked → set < (slice_index_or asked k d).0)
 
 -- the leaf was added to what is kept
