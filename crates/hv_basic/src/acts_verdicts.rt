@@ -37,7 +37,7 @@ pub(crate) fn decide_acts(
         return Ok(Verdict::True);
     }
     let seconds = take_flags(alloc, case.table, kept, second, case.task.actions())?;
-    let verdict = verdict_beside(alloc, case, kept, first, second, &seconds)?;
+    let verdict = verdict_by_second(alloc, case, kept, first, second, &seconds)?;
     put_flags(kept, seconds)?;
     Ok(verdict)
 }
@@ -60,7 +60,7 @@ fn is_part(table: &Table, first: usize, second: usize) -> bool
 
 /// The verdict by the flags of the second action set. Where the first one is a list that rises its
 /// actions are asked for, and no others.
-fn verdict_beside(
+fn verdict_by_second(
     alloc: Global,
     case: &Case<'_>,
     kept: &mut Vec<FlaggedActs>,

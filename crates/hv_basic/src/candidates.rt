@@ -4,7 +4,7 @@
 //! out of it; where clauses before the action deny atoms, for those that don't stand in the row of
 //! one.
 
-ghost use Rattle.std.specs.Prelude.{◌≡◌, ◌<◌, ◌⊎◌, ◌↔◌, ℕ, Option, Some, false, length, map};
+ghost use Rattle.std.specs.Prelude.{◌≡◌, ◌<◌, ◌⊎◌, ℕ, Option, Some, false, length, map};
 ghost use Rattle.std.specs.Prelude.{IfOk, IfSome, IsTrue, OnOk};
 ghost use Rattle.std.specs.List.{Contains};
 ghost use Rattle.std.specs.List.Sorted.{IsStrictlyIncreasing};
@@ -27,6 +27,7 @@ use crate::actions::asked_actions;
 use crate::basic::Question;
 use crate::case::Case;
 use crate::denied::clashes_in_open;
+use crate::families::is_listed;
 use crate::framed::{crossing, most_literals};
 use crate::long_lists::{listed_among, long_list};
 use crate::picked::{put, put_row};
@@ -253,13 +254,6 @@ fn candidates(
     }
 }
 
-/// Whether the family is that of listed states.
-pub(crate) fn is_listed(family: FormulaFamily) -> bool
-    ensures { IsTrue result ↔ (family ≡ F.States) }
-{
-    family == FormulaFamily::States
-}
-
 /// The first action, and those of which an atom of the precondition is in one of the states, by the
 /// rows that the store has; or by rows that are made, if they are to be made where it has none.
 fn applicable_in(
@@ -294,7 +288,7 @@ fn applicable_by(
     requires states { AreStates (atoms task.now) states.now }
     ensures { IfOk result (λ found. IfSome found (AreFound task.now states.now)) }
 {
-    if cost_of(rows, states) > task.actions() as usize / 4 {
+    if cost_of_rows(rows, states) > task.actions() as usize / 4 {
         return Ok(None);
     }
     let mut found = AtomSet::new(alloc);
@@ -310,7 +304,7 @@ fn applicable_by(
 }
 
 /// How many atoms the states have, and how many actions are in the rows of these.
-fn cost_of(rows: &[Vec<u32>], states: &StateList) -> usize {
+fn cost_of_rows(rows: &[Vec<u32>], states: &StateList) -> usize {
     let mut cost: usize = 0;
     let mut buffer = StateBuffer::new();
     for place in 0..states.len() {

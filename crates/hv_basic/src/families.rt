@@ -1,13 +1,15 @@
-//! The family of a statement.
+//! The family of a statement, and of a set.
 
-ghost use Rattle.std.specs.Prelude.{◌≡◌, ◌<◌, ◌↔◌, List, IsTrue, MatchOption};
+ghost use Rattle.std.specs.Prelude.{◌≡◌, ◌<◌, ◌↔◌, List, true, IsTrue, MatchOption};
 ghost use Rattle.hv_lines.specs.Literals.{IsPlainExpr};
 ghost use Rattle.hv_lines.specs.Numbering.{expr_count};
 ghost use Rattle.hv_lines.specs.Shapes.{AreOfTwoFamilies, family_of};
 ghost use Rattle.hv_lines.specs.declared.formula_family.FormulaFamily.{FormulaFamily};
+ghost use Rattle.hv_lines.specs.declared.formula_family.FormulaFamily.TheVariants as F;
 ghost use Rattle.hv_lines.specs.declared.line.Line.{Line};
 ghost use Rattle.hv_basic.specs.Working.Gathered.{HaveTheirFamilies};
 ghost use Rattle.hv_basic.specs.Working.Sharing.{AreOtherFamilies, IsFamilyBeside, IsFamilyWith};
+ghost use Rattle.hv_basic.specs.Working.Sharing.{IsInClauses};
 
 use crate::signed_sets::Asking;
 use hv_lines::{Expr, FormulaFamily, Table};
@@ -88,5 +90,39 @@ fn family_of(expr: &Expr) -> Option<FormulaFamily>
         Expr::Node(_) => Some(FormulaFamily::Node),
         Expr::Constant(_) | Expr::Not(_) => None,
         Expr::And(..) | Expr::Or(..) | Expr::After(..) | Expr::Before(..) => None,
+    }
+}
+
+/// Whether the family is that of listed states.
+pub(crate) fn is_listed(family: FormulaFamily) -> bool
+    ensures { IsTrue result ↔ (family ≡ F.States) }
+{
+    family == FormulaFamily::States
+}
+
+/// Whether the formulas of the family are in clauses: over these the ways to choose one of each are
+/// the cost.
+pub(crate) fn is_in_clauses(family: FormulaFamily) -> bool
+    ensures { result ≡ true → IsInClauses family }
+{
+    match family {
+        FormulaFamily::Horn | FormulaFamily::Dual | FormulaFamily::Two => true,
+        FormulaFamily::States | FormulaFamily::Node => false,
+    }
+}
+
+/// Whether the set is a list of states.
+pub(crate) fn is_state_list(expr: &Expr) -> bool {
+    match family_of(expr) {
+        Some(family) => is_listed(family),
+        None => false,
+    }
+}
+
+/// Whether the set is a formula in clauses.
+pub(crate) fn is_clause_formula(expr: &Expr) -> bool {
+    match family_of(expr) {
+        Some(family) => is_in_clauses(family),
+        None => false,
     }
 }

@@ -198,7 +198,7 @@ fn verdict_within<K: ClauseKind>(
     if left.atoms() != right.atoms() {
         return Ok(None);
     }
-    match find_within(alloc, left, right, case.budget, scratch)? {
+    match find_within_kind(alloc, left, right, case.budget, scratch)? {
         Finding::Over => Ok(Some(Verdict::Over)),
         Finding::Empty => Ok(Some(Verdict::True)),
         Finding::Clash => {
@@ -212,7 +212,7 @@ fn verdict_within<K: ClauseKind>(
 /// right one. Each is asked about with all its literals at once, in the rows of the scratch, which
 /// need no clearing: what the left formula forces by itself is worked out already, and a clause
 /// that follows from few others is found out by these.
-fn find_within<K: ClauseKind>(
+fn find_within_kind<K: ClauseKind>(
     alloc: Global,
     left: &Formula<K>,
     right: &Formula<K>,

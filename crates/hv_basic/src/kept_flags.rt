@@ -30,7 +30,7 @@ pub(crate) fn take_flags(
     ensures kept { All (AreItsFlags table.now.lines) kept.new.items }
     ensures flagged { IfOk result (AreTakenFlags table.now.lines acts actions) }
 {
-    if let Some(flagged) = take_kept(table, kept, acts, actions) {
+    if let Some(flagged) = take_kept_flags(table, kept, acts, actions) {
         return Ok(flagged);
     }
     let flags = flags_of(alloc, table, acts, actions)?;
@@ -38,7 +38,7 @@ pub(crate) fn take_flags(
 }
 
 /// The same, if something is kept that serves.
-fn take_kept(
+fn take_kept_flags(
     table: &Table,
     kept: &mut Vec<FlaggedActs>,
     acts: usize,
@@ -49,16 +49,16 @@ fn take_kept(
     ensures kept { All (AreItsFlags table.now.lines) kept.new.items }
     ensures flagged { IfSome result (AreTakenFlags table.now.lines acts actions) }
 {
-    let place = serving(kept, table, acts)?;
+    let place = serving_flags(kept, table, acts)?;
     let mut flagged = kept.remove(place);
-    if !turn_to(table, &mut flagged, acts, actions) {
+    if !turn_flags(table, &mut flagged, acts, actions) {
         return None;
     }
     Some(flagged)
 }
 
 /// The place of what is kept of the action set, or else of a part of it.
-fn serving(kept: &[FlaggedActs], table: &Table, acts: usize) -> Option<usize>
+fn serving_flags(kept: &[FlaggedActs], table: &Table, acts: usize) -> Option<usize>
     requires { acts < acts_count table.now.lines }
     ensures { IfSome result (λ place. place < length kept.now) }
 {
@@ -68,7 +68,7 @@ fn serving(kept: &[FlaggedActs], table: &Table, acts: usize) -> Option<usize>
         }
     }
     for place in 0..kept.len() {
-        if part_beside(table, kept[place].acts, acts).is_some() {
+        if acts_beside(table, kept[place].acts, acts).is_some() {
             return Some(place);
         }
     }
@@ -77,7 +77,7 @@ fn serving(kept: &[FlaggedActs], table: &Table, acts: usize) -> Option<usize>
 
 /// Makes the flags those of the action set, if they are, or if it is the union of theirs and a
 /// list: whether they are then.
-fn turn_to(table: &Table, flagged: &mut FlaggedActs, acts: usize, actions: u32) -> bool
+fn turn_flags(table: &Table, flagged: &mut FlaggedActs, acts: usize, actions: u32) -> bool
     requires acts { acts < acts_count table.now.lines }
     requires flagged { AreItsFlags table.now.lines flagged.old }
     ensures { result ≡ true → AreTakenFlags table.now.lines acts actions flagged.new }
@@ -88,7 +88,7 @@ fn turn_to(table: &Table, flagged: &mut FlaggedActs, acts: usize, actions: u32) 
     if flagged.acts == acts {
         return true;
     }
-    match part_beside(table, flagged.acts, acts) {
+    match acts_beside(table, flagged.acts, acts) {
         None => false,
         Some(part) => add_part(table, flagged, acts, part),
     }
@@ -113,7 +113,7 @@ fn add_part(table: &Table, flagged: &mut FlaggedActs, acts: usize, part: usize) 
 }
 
 /// The other part of the action set, where one part is the first one.
-fn part_beside(table: &Table, first: usize, acts: usize) -> Option<usize>
+fn acts_beside(table: &Table, first: usize, acts: usize) -> Option<usize>
     requires { acts < acts_count table.now.lines }
     ensures { IfSome result (IsActsBeside table.now.lines first acts) }
 {

@@ -15,7 +15,7 @@ ghost use Rattle.hv_basic.specs.Working.Sharing.{IsVerdictOfSub};
 ghost use Rattle.hv_basic.specs.declared.signed_sets.Asking.{Asking};
 
 use crate::case::Case;
-use crate::families::one_family;
+use crate::families::{is_clause_formula, one_family};
 use crate::joint::{JointFormula, joint_of, verdict_of_joint};
 use crate::rising::in_order;
 use crate::shapes::MOST_OPERANDS;
@@ -23,7 +23,7 @@ use crate::shared::{KeptJoint, KeptLeaves};
 use crate::shared_verdicts::are_positive;
 use crate::sides::Inclusion;
 use crate::signed_sets::{Asking, Others, gather};
-use hv_lines::{Expr, FormulaFamily, Table, Verdict, Word};
+use hv_lines::{FormulaFamily, Verdict, Word};
 use hv_sets::Scratch;
 use std::alloc::{AllocError, Global};
 
@@ -51,7 +51,7 @@ pub(crate) fn verdict_by_joint(
         (lines_in case.now) claim.word claim.left claim.right)) }
     ensures joints { All (IsJointKept (lines_in case.now)) joints.new.items }
 {
-    if !is_lone_word(claim.word) || !is_in_clauses(case.table, claim.right) {
+    if !is_lone_word(claim.word) || !is_clause_formula(case.table.expr(claim.right)) {
         return Ok(None);
     }
     let Some(place) = bring_joint(alloc, case, lefts, joints, claim.left)? else {
@@ -71,16 +71,6 @@ fn is_lone_word(word: Word) -> bool
         Word::B1 => true,
         _ => false,
     }
-}
-
-/// Whether the set is a formula in clauses.
-fn is_in_clauses(table: &Table, set: usize) -> bool
-    requires { set < expr_count table.now.lines }
-{
-    matches!(
-        table.expr(set),
-        Expr::Horn(_) | Expr::Dual(_) | Expr::Two(_)
-    )
 }
 
 /// The place of the left side. Where it isn't there, and its leaves are kept and are many, it is
@@ -107,7 +97,7 @@ fn bring_joint(
         return Ok(None);
     }
     let formula = joint_of_leaves(alloc, case, &lefts[place])?;
-    make_room(joints);
+    give_up_joint(joints);
     joints.push(KeptJoint { root, formula })?;
     Ok(Some(joints.len() - 1))
 }
@@ -178,7 +168,7 @@ fn family_of_all(askings: &[Asking]) -> Option<FormulaFamily>
 }
 
 /// Gives up the first, where there are many.
-fn make_room(joints: &mut Vec<KeptJoint>)
+fn give_up_joint(joints: &mut Vec<KeptJoint>)
     ensures { (lines : List Line) → All (IsJointKept lines) joints.old.items
         → All (IsJointKept lines) joints.new.items }
 {

@@ -34,14 +34,14 @@ pub(crate) fn take_leaves(
     ensures kept { All (AreItsLeaves table.now.lines) kept.new.items }
     ensures leaves { IfOk result (AreTakenLeaves table.now.lines root) }
 {
-    match take_kept(alloc, table, kept, root)? {
+    match take_kept_leaves(alloc, table, kept, root)? {
         Some(own) => Ok(own),
         None => taken_apart(alloc, table, root),
     }
 }
 
 /// The same, if something is kept that serves.
-fn take_kept(
+fn take_kept_leaves(
     alloc: Global,
     table: &Table,
     kept: &mut Vec<KeptLeaves>,
@@ -52,11 +52,11 @@ fn take_kept(
     ensures kept { All (AreItsLeaves table.now.lines) kept.new.items }
     ensures leaves { IfOk result (λ found. IfSome found (AreTakenLeaves table.now.lines root)) }
 {
-    let Some(place) = serving(kept, table, root) else {
+    let Some(place) = serving_leaves(kept, table, root) else {
         return Ok(None);
     };
     let mut own = kept.remove(place);
-    if !turn_to(alloc, table, &mut own, root)? {
+    if !turn_leaves(alloc, table, &mut own, root)? {
         return Ok(None);
     }
     Ok(Some(own))
@@ -74,7 +74,7 @@ fn taken_apart(alloc: Global, table: &Table, root: usize) -> Result<KeptLeaves, 
 }
 
 /// The place of what is kept of the intersection, or else of a part of it.
-fn serving(kept: &[KeptLeaves], table: &Table, root: usize) -> Option<usize>
+fn serving_leaves(kept: &[KeptLeaves], table: &Table, root: usize) -> Option<usize>
     requires { root < expr_count table.now.lines }
     ensures { IfSome result (λ place. place < length kept.now) }
 {
@@ -94,7 +94,7 @@ fn serving(kept: &[KeptLeaves], table: &Table, root: usize) -> Option<usize>
 
 /// Makes the leaves those of the intersection, if they are, or if it is that of their set and one
 /// with few leaves: whether they are then.
-fn turn_to(
+fn turn_leaves(
     alloc: Global,
     table: &Table,
     own: &mut KeptLeaves,
@@ -215,13 +215,13 @@ pub(crate) fn put_leaves(kept: &mut Vec<KeptLeaves>, own: KeptLeaves) -> Result<
     if is_lone(&own) {
         return Ok(());
     }
-    make_room(kept);
+    give_up_leaves(kept);
     kept.push(own)?;
     Ok(())
 }
 
 /// Gives up the first, where there are many.
-fn make_room(kept: &mut Vec<KeptLeaves>)
+fn give_up_leaves(kept: &mut Vec<KeptLeaves>)
     ensures { (lines : List Line) → All (AreItsLeaves lines) kept.old.items
         → All (AreItsLeaves lines) kept.new.items }
 {

@@ -28,14 +28,14 @@ pub(crate) fn bring(
     ensures kept { (lines : List Line) → All (IsRightSide lines) sides.old.items
         → All (IsRightSide lines) sides.new.items }
 {
-    match serving(sides, table, root, after) {
+    match serving_side(sides, table, root, after) {
         Some(place) => put_last(sides, place),
         None => begin(alloc, sides),
     }
 }
 
 /// The place of what is kept of the union, or else of a part of it.
-fn serving(sides: &[Kept], table: &Table, root: usize, after: bool) -> Option<usize>
+fn serving_side(sides: &[Kept], table: &Table, root: usize, after: bool) -> Option<usize>
     requires { root < expr_count table.now.lines }
     ensures { IfSome result (λ place. place < length sides.now) }
 {

@@ -16,16 +16,15 @@ ghost use Rattle.hv_basic.specs.Working.Asked.{AreOperands};
 ghost use Rattle.hv_basic.specs.Working.Gathered.{IsLeftRead};
 ghost use Rattle.hv_lines.specs.declared.line.Line.{Line};
 ghost use Rattle.hv_basic.specs.Working.Sharing.{AreAskedBeside, IsAloneWithin};
-ghost use Rattle.hv_basic.specs.Working.Sharing.{AreNamed, IsAskedBy, IsInClauses, IsVerdictOfSub};
+ghost use Rattle.hv_basic.specs.Working.Sharing.{AreNamed, IsAskedBy, IsVerdictOfSub};
 ghost use Rattle.hv_basic.specs.Working.Sharing.{IsListWithinIts, IsWithinIts};
 ghost use Rattle.hv_lines.specs.declared.line.Expr.TheVariants as E;
 ghost use Rattle.hv_basic.specs.declared.signed_sets.Asking.{Asking};
 ghost use Rattle.hv_basic.specs.Working.Views.{question_of};
 
 use crate::basic::Question;
-use crate::candidates::is_listed;
 use crate::case::Case;
-use crate::families::one_family;
+use crate::families::{is_in_clauses, is_listed, one_family};
 use crate::kept_joints::verdict_by_joint;
 use crate::lefts::{asks_sides_after, left_of};
 use crate::recent::bring;
@@ -37,7 +36,7 @@ use crate::sides::{Inclusion, Sides};
 use crate::signed_sets::{Asking, gather};
 use crate::told::is_told;
 use crate::verdicts::{decide_on, decide_sets, decide_whole, operands_of};
-use hv_lines::{Expr, FormulaFamily, Statement, Table, Verdict, Word};
+use hv_lines::{Expr, Statement, Table, Verdict, Word};
 use hv_sets::Scratch;
 use std::alloc::{AllocError, Global};
 
@@ -418,16 +417,6 @@ fn is_within_its(kept: &Kept, budget: u64) -> bool
         return false;
     }
     have_common(&kept.question.positive, &kept.question.negative)
-}
-
-/// Whether the ways to choose clauses are the cost over formulas of the family.
-pub(crate) fn is_in_clauses(family: FormulaFamily) -> bool
-    ensures { result ≡ true → IsInClauses family }
-{
-    match family {
-        FormulaFamily::Horn | FormulaFamily::Dual | FormulaFamily::Two => true,
-        FormulaFamily::States | FormulaFamily::Node => false,
-    }
 }
 
 /// Whether the right side asks for one formula in clauses alone, for which the left side asks too,

@@ -23,6 +23,7 @@ ghost use Rattle.hv_basic.specs.Stores.{with_expr, with_line, with_rows};
 ghost use Rattle.hv_basic.specs.Working.Stores.{IsUnstored};
 
 use crate::change_rows::{ChangeRows, change_rows};
+use crate::families::{is_clause_formula, is_state_list};
 use hv_clauses::Formulas;
 use hv_explicit::{Explicit, Explicits};
 use hv_formula::{ClauseKind, Formula};
@@ -187,7 +188,7 @@ impl Store {
     fn rows_beside(&self, task: &Task, expr: &Expr) -> Result<Option<Vec<Vec<u32>>>, AllocError>
         ensures { IfOk result (AreRowsFor task.now) }
     {
-        if self.listed.len() != MANY || !is_listed(expr) {
+        if self.listed.len() != MANY || !is_state_list(expr) {
             return Ok(None);
         }
         let rows = action_rows(self.alloc, task)?;
@@ -222,7 +223,7 @@ impl Store {
     fn changes_beside(&self, task: &Task, expr: &Expr) -> Result<Option<ChangeRows>, AllocError>
         ensures { IfOk result (AreChangesFor task.now) }
     {
-        if self.in_clauses() != MANY || !is_in_clauses(expr) {
+        if self.in_clauses() != MANY || !is_clause_formula(expr) {
             return Ok(None);
         }
         let changes = change_rows(self.alloc, task)?;
@@ -325,14 +326,6 @@ fn add_listing(
     let set = Explicit::new(alloc, task, states)?;
     let number = into.add(set)?;
     Ok(number)
-}
-
-fn is_listed(expr: &Expr) -> bool {
-    matches!(expr, Expr::States(_))
-}
-
-fn is_in_clauses(expr: &Expr) -> bool {
-    matches!(expr, Expr::Horn(_) | Expr::Dual(_) | Expr::Two(_))
 }
 
 /// What the set is named by that isn't put into a store.

@@ -14,11 +14,11 @@ ghost use Rattle.hv_basic.specs.Working.Told.{AreOfFamily, AskOneFamily, HasEnou
 ghost use Rattle.hv_basic.specs.Working.Told.{IsOwn, IsToldTrue, IsWithinLimits};
 
 use crate::case::Case;
-use crate::families::{family_with, one_family};
+use crate::families::{family_with, is_in_clauses, one_family};
 use crate::rights::{MOST_FEW, own_clauses};
 use crate::shapes::MOST_OPERANDS;
 use crate::shared::Kept;
-use crate::shared_verdicts::{are_positive, is_among, is_in_clauses};
+use crate::shared_verdicts::{are_positive, is_among};
 use crate::signed_sets::Asking;
 use hv_lines::{FormulaFamily, Table};
 use hv_sets::Literal;
@@ -71,14 +71,14 @@ fn are_allowed(left: usize, negated: usize, plain: usize) -> bool
 fn asks_one_family(kept: &Kept, askings: &[Asking]) -> bool
     ensures { result ≡ true → AskOneFamily kept.now askings.now }
 {
-    match family_of_all(kept, askings) {
+    match family_of_sides(kept, askings) {
         None => false,
         Some(family) => is_in_clauses(family),
     }
 }
 
-/// The family of all formulas, if they are of one.
-fn family_of_all(kept: &Kept, askings: &[Asking]) -> Option<FormulaFamily>
+/// The family of all formulas of both sides, if they are of one.
+fn family_of_sides(kept: &Kept, askings: &[Asking]) -> Option<FormulaFamily>
     ensures { IfSome result (AreOfFamily kept.now askings.now) }
 {
     let right = family_with(kept.family, kept.negated)?;

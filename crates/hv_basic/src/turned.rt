@@ -160,13 +160,13 @@ fn put_clause(
         → Contains found.old k ⊎ (k < actions)) }
 {
     for literal in clause {
-        put_literal(*literal, value, changes, actions, found)?;
+        put_actions_for(*literal, value, changes, actions, found)?;
     }
     Ok(())
 }
 
 /// Puts in the actions that can make the literal true, or false.
-fn put_literal(
+fn put_actions_for(
     literal: Literal,
     value: bool,
     changes: &ChangeRows,

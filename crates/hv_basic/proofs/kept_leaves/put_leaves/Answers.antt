@@ -7,5 +7,5 @@ use Rattle.hv_basic.proofs.kept_leaves.put_leaves.Goals as goal
 pub returns : goal.returns
 returns c = λ lines are own.
     subst (All (AreItsLeaves lines)) (sym c.in_ok-push.ensures.items)
-    (All-push (AreItsLeaves lines) c.make_room.new.kept.items c.args.own
-    (c.make_room.ensures lines are) own)
+    (All-push (AreItsLeaves lines) c.give_up_leaves.new.kept.items c.args.own
+    (c.give_up_leaves.ensures lines are) own)

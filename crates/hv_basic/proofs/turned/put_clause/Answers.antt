@@ -7,7 +7,7 @@ use Rattle.hv_basic.proofs.turned.put_clause.Goals as goal
 pub loop-literal-preserved : goal.loop-literal-preserved
 loop-literal-preserved c =
     let i = c.loop-literal.invariant in
-    let e = c.in_ok-put_literal.ensures in
+    let e = c.in_ok-put_actions_for.ensures in
     record {
       kept = λ k h. e.kept k (i.kept k h);
       has = λ j d less task number action rows at turns below.

@@ -1,7 +1,7 @@
 use Rattle.std.proofs.Common.{subst, sym}
 use Rattle.hv_basic.specs.ChangeRows.{changed_to}
 use Rattle.std.specs.List.{Contains}
-use Rattle.hv_basic.proofs.turned.put_literal.Goals as goal
+use Rattle.hv_basic.proofs.turned.put_actions_for.Goals as goal
 
 pub returns-clause-has : goal.returns-clause-has
 returns-clause-has c = λ task number action rows at turns less.

@@ -2,7 +2,7 @@ use Rattle.std.proofs.Common.{subst, sym}
 use Rattle.std.specs.List.{All}
 use Rattle.hv_basic.specs.Sharing.{AreItsLeaves}
 use Rattle.hv_basic.proofs.KeptLeaves.{lefts_without}
-use Rattle.hv_basic.proofs.kept_leaves.make_room.Goals as goal
+use Rattle.hv_basic.proofs.kept_leaves.give_up_leaves.Goals as goal
 
 pub returns : goal.returns
 returns c = λ lines are.

@@ -2,7 +2,7 @@ use Rattle.std.proofs.Common.{subst, sym}
 use Rattle.std.specs.List.{All}
 use Rattle.hv_basic.specs.Sharing.{IsJointKept}
 use Rattle.hv_basic.proofs.Joints.{joints_without}
-use Rattle.hv_basic.proofs.kept_joints.make_room.Goals as goal
+use Rattle.hv_basic.proofs.kept_joints.give_up_joint.Goals as goal
 
 pub returns : goal.returns
 returns c = λ lines are.
