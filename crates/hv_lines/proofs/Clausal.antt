@@ -16,6 +16,7 @@ use Rattle.hv_sets.specs.Truth.{in_clauses}
 use Rattle.hv_sets.specs.declared.literal.Literal.{Literal}
 use Rattle.hv_sets.specs.declared.query.Query.{Query}
 use Rattle.hv_bdd.specs.Nodes.{NodeList, no_nodes}
+use Rattle.hv_lines.specs.Drafts.{with_budget}
 use Rattle.hv_lines.specs.Good.{IsBasicWord, IsGood, IsRuleWord}
 use Rattle.hv_lines.specs.Working.Good.{IsFormed}
 use Rattle.hv_lines.specs.Literals.{IsFormula}
@@ -24,7 +25,7 @@ use Rattle.hv_lines.specs.Numbering.{IsTable, expr_at, expr_count, known_count, 
 use Rattle.hv_lines.specs.Pruning.{IsNoted, states_in}
 use Rattle.hv_lines.specs.Queries.{IsOffered, PassesBudget, asked_actions, collected, has_of}
 use Rattle.hv_lines.specs.Queries.{horn_in, operand_of, query_of, two_in, which_at}
-use Rattle.hv_lines.specs.Setting.{Setting, setting_of}
+use Rattle.hv_lines.specs.Setting.{Setting}
 use Rattle.hv_lines.specs.Shapes.{Askings, IsLiteralOf, IsOfFamily, IsQuestion}
 use Rattle.hv_lines.specs.Shapes.{OfSets, QuestionState, and_parts, asked_step, asks_sides_after}
 use Rattle.hv_lines.specs.Shapes.{asks_step_after, family_of, or_parts}
@@ -90,10 +91,6 @@ good_true setting lines table q id left right word formed basic no_rule is offer
             ),
       ),
     )
-
--- what a draft for the task is judged by, with this budget in place of the default one
-abbrev pub by_budget : Strips → ℕ → Setting
-by_budget task budget = setting_of task (no_nodes (atoms task)) budget
 
 -- no action leads out of the states in which the clauses have this truth, and none of these is a
 -- goal state
@@ -417,7 +414,7 @@ module _ (task : Strips) (expr : Expr) (family : FormulaFamily) (clauses : List 
         -- and their lines are good within each budget that the clauses don't pass
         module _ (budget : ℕ) (enough : length clauses ≤ budget) (some : 0 < budget) where
           abbrev setting : Setting
-          setting = by_budget task budget
+          setting = with_budget task budget
 
           goal_cheap : (way : Bool)
               → IsCheap setting (others_of false false false (met way set) (only true 0))

@@ -7,6 +7,7 @@ use Rattle.std.proofs.Common.{length, refl, sym, subst, inl, inr, arith}
 use Rattle.hv_task.specs.Strips.{Strips}
 use Rattle.hv_sets.specs.declared.literal.Literal.{Literal}
 use Rattle.hv_lines.specs.Drafts.{IsGoodNext, IsGoodTable, default_budget, draft_setting, onto}
+use Rattle.hv_lines.specs.Drafts.{with_budget}
 use Rattle.hv_lines.specs.Good.{IsBasicWord, IsGood}
 use Rattle.hv_lines.specs.Numbering.{IsTable, acts_count, expr_at, expr_count, known_count}
 use Rattle.hv_lines.specs.Numbering.{statement_at}
@@ -25,7 +26,7 @@ use Rattle.hv_lines.specs.declared.line.Word.{Word}
 use Rattle.hv_lines.specs.declared.line.Word.TheVariants as W
 use Rattle.hv_lines.proofs.Budgets.{AreSettled}
 use Rattle.hv_lines.proofs.Carried.{expr_onto, known_onto}
-use Rattle.hv_lines.proofs.Clausal.{AreDeadEnd, IsClausal, by_budget, good_leads, good_misses}
+use Rattle.hv_lines.proofs.Clausal.{AreDeadEnd, IsClausal, good_leads, good_misses}
 use Rattle.hv_lines.proofs.Clausal.{step_by, word_by}
 use Rattle.hv_lines.proofs.Drafting.{below_three, below_two, next_after, next_and, next_before}
 use Rattle.hv_lines.proofs.Drafting.{next_or, next_rule, table_of}
@@ -343,7 +344,7 @@ module _ (task : Strips) (expr : Expr) (family : FormulaFamily) (clauses : List 
       both meet k next
 
   module _ (budget : ℕ) (enough : length clauses ≤ budget) (some : 0 < budget) where
-    led : IsGood (by_budget task budget) Sets
+    led : IsGood (with_budget task budget) Sets
         (L.Known k (T.Sub step both) (word_by forwards) [])
     led =
         good_leads task expr family clauses clausal Sets set set_at sets_is sets_have dead
@@ -355,7 +356,7 @@ module _ (task : Strips) (expr : Expr) (family : FormulaFamily) (clauses : List 
         (omega (arith, next.claim_is, next.few_claims)) next.claim_is
         (omega (arith, next.step_is, next.few_sets)) (omega (arith, next.both_is, next.few_sets))
 
-    missed : IsTable Led → IsGood (by_budget task budget) Led
+    missed : IsTable Led → IsGood (with_budget task budget) Led
         (L.Known (k + 1) (T.Sub meet 0) W.B1 [])
     missed table =
         let claim = L.Known k (T.Sub step both) (word_by forwards) [] ∷ [] in

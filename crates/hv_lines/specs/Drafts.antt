@@ -1,9 +1,10 @@
 -- Drafts: proofs that are written, line by line, so that each line is good after those before it.
 use Rattle.std.specs.Prelude.{◌≤◌, ◌+◌, ◌^◌, ℕ, List, [], ◌∷◌, length}
+use Rattle.std.specs.List.{All}
 use Rattle.hv_task.specs.Strips.{Strips, atoms}
 use Rattle.hv_bdd.specs.Nodes.{no_nodes}
 use Rattle.hv_bytes.specs.Standard.{most_line_bytes}
-use Rattle.hv_lines.specs.Good.{IsGood}
+use Rattle.hv_lines.specs.Good.{AreGood, IsGood}
 use Rattle.hv_lines.specs.Setting.{Setting, setting_of}
 use Rattle.hv_lines.specs.Spelling.{spelling_of}
 use Rattle.hv_lines.specs.declared.line.Acts.TheVariants as A
@@ -18,9 +19,20 @@ use Rattle.hv_lines.specs.declared.line.Word.TheVariants as W
 abbrev pub default_budget : ℕ
 default_budget = 1000000
 
--- what a draft for the task is judged by: no node file, and the default budget
+-- what a draft for the task is judged by, with this budget in place of the default one: there is no
+-- node file
+abbrev pub with_budget : Strips → ℕ → Setting
+with_budget task budget = setting_of task (no_nodes (atoms task)) budget
+
+-- what a draft for the task is judged by
 abbrev pub draft_setting : Strips → Setting
-draft_setting task = setting_of task (no_nodes (atoms task)) default_budget
+draft_setting task = with_budget task default_budget
+
+-- no query of the lines costs more than so many clauses, since with that budget they are good too;
+-- and no line is longer than 7,400,000 bytes
+pub record IsModest (task : Strips) (clauses : ℕ) (lines : List Line) : Type 0 where
+  pub cost : AreGood (with_budget task clauses) lines
+  pub bytes : All (λ line. length (spelling_of line) ≤ 7400000) lines
 
 -- the line isn't too long
 abbrev pub IsShortLine : Line → Type 0

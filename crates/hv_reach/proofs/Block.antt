@@ -7,6 +7,7 @@ use Rattle.hv_task.specs.Strips.{Strips, IsTask, atoms}
 use Rattle.hv_sets.specs.Kinds.{IsHornClause}
 use Rattle.hv_sets.specs.declared.literal.Literal.{Literal}
 use Rattle.hv_lines.specs.Drafts.{IsGoodTable, default_budget, draft_setting, onto, prelude}
+use Rattle.hv_lines.specs.Drafts.{with_budget}
 use Rattle.hv_lines.specs.Good.{AreGood, IsGood}
 use Rattle.hv_lines.specs.Judged.{Concludes}
 use Rattle.hv_lines.specs.Numbering.{IsTable, expr_at, expr_count, known_count}
@@ -29,7 +30,7 @@ use Rattle.hv_lines.proofs.Drafting.{good_of, good_prelude, table_of}
 use Rattle.hv_lines.proofs.Extended.{HasPrelude, prelude_has, prelude_onto}
 use Rattle.hv_lines.proofs.Laws.{expr_at_here, expr_below}
 use Rattle.hv_lines.proofs.Lengths.{IsSmall, decimal_short, short_horn, weight}
-use Rattle.hv_reach.specs.Written.{IsDenial, dead_block, horn_proof, with_budget}
+use Rattle.hv_reach.specs.Written.{IsDenial, dead_block, horn_proof}
 use Rattle.hv_reach.specs.Working.Written.{IsDeadEnd, Separates}
 
 -- what a clause of denials is: Horn, small, and over the task's atoms

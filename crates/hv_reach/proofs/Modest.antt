@@ -6,10 +6,11 @@ use Rattle.std.proofs.lemmas.List.Elements.{All-head, All-tail}
 use Rattle.std.specs.List.{All, flat_map}
 use Rattle.hv_task.specs.Strips.{Strips, IsTask, atoms}
 use Rattle.hv_sets.specs.declared.literal.Literal.{Literal}
+use Rattle.hv_lines.specs.Drafts.{IsModest}
 use Rattle.hv_lines.specs.Spelling.{clause_fields, literal_field}
 use Rattle.hv_lines.specs.declared.line.Line.{Line}
 use Rattle.hv_lines.proofs.Lengths.{weight, weight-append}
-use Rattle.hv_reach.specs.Written.{IsDenial, IsModest, IsPairsProof, IsRelaxedProof, PairsExclude}
+use Rattle.hv_reach.specs.Written.{IsDenial, IsPairsProof, IsRelaxedProof, PairsExclude}
 use Rattle.hv_reach.specs.Written.{RelaxedExcludes, pairs_formula, relaxed_formula}
 use Rattle.hv_reach.proofs.Block.{lines_brief, within_budget}
 use Rattle.hv_reach.proofs.Denials.{pairs_denials, pairs_few, pairs_separates, relaxed_denials}

@@ -5,10 +5,7 @@ use Rattle.std.specs.Prelude.{◌∷◌, length, if◌then◌else◌}
 use Rattle.std.specs.List.{All, Contains, flat_map, range_with_len}
 use Rattle.hv_task.specs.Strips.{Strips, atoms, start_state}
 use Rattle.hv_sets.specs.declared.literal.Literal.{Literal}
-use Rattle.hv_lines.specs.Drafts.{conclusion, draft_setting, onto, prelude}
-use Rattle.hv_lines.specs.Good.{AreGood}
-use Rattle.hv_lines.specs.Setting.{Setting, setting_of}
-use Rattle.hv_lines.specs.Spelling.{spelling_of}
+use Rattle.hv_lines.specs.Drafts.{conclusion, onto, prelude}
 use Rattle.hv_lines.specs.declared.line.Expr.TheVariants as E
 use Rattle.hv_lines.specs.declared.line.Line.{Line}
 use Rattle.hv_lines.specs.declared.line.Line.TheVariants as L
@@ -93,16 +90,6 @@ IsPairsProof task lines =
     (reached : ℕ → ℕ → Bool)
     × ((p q : ℕ) → (reached p q ≡ true) ↔ ReachedPair task (start_state task) p q)
     × (lines ≡ horn_proof (pairs_formula (atoms task) reached))
-
--- what a draft for the task is judged by, with this budget in place of the default one
-abbrev pub with_budget : Strips → ℕ → Setting
-with_budget task budget = setting_of task (draft_setting task).nodes budget
-
--- no query of the lines costs more than so many clauses, since with that budget they are good too;
--- and no line is longer than 7,400,000 bytes
-pub record IsModest (task : Strips) (clauses : ℕ) (lines : List Line) : Type 0 where
-  pub cost : AreGood (with_budget task clauses) lines
-  pub bytes : All (λ line. length (spelling_of line) ≤ 7400000) lines
 
 -- the clause denies that all of at most two atoms below the bound are held
 pub record IsDenial (bound : ℕ) (clause : List Literal) : Type 0 where

@@ -3,10 +3,10 @@
 ghost use Rattle.std.specs.Prelude.{◌≡◌, ◌≤◌, List, length};
 ghost use Rattle.hv_task.specs.Deadness.{AreDead};
 ghost use Rattle.hv_task.specs.Strips.{Strips, IsTask, atoms};
-ghost use Rattle.hv_lines.specs.Drafts.{IsGoodTable};
+ghost use Rattle.hv_lines.specs.Drafts.{IsGoodTable, IsModest};
 ghost use Rattle.hv_lines.specs.Judged.{Concludes};
 ghost use Rattle.hv_lines.specs.declared.line.Line.{Line};
-ghost use Rattle.hv_reach.specs.Written.{IsModest, IsPairsProof, IsRelaxedProof, PairsExclude};
+ghost use Rattle.hv_reach.specs.Written.{IsPairsProof, IsRelaxedProof, PairsExclude};
 ghost use Rattle.hv_reach.specs.Written.{PairsExcludeFrom, RelaxedExcludes, RelaxedExcludesFrom};
 
 /// Does nothing: its contract states that a task has one proof by its reached atoms, of sixteen

@@ -8,6 +8,7 @@ use Rattle.hv_task.specs.Strips.{Strips, start_state}
 use Rattle.hv_sets.specs.Truth.{in_clauses}
 use Rattle.hv_sets.specs.declared.literal.Literal.{Literal}
 use Rattle.hv_lines.specs.Drafts.{IsGoodTable, default_budget, draft_setting, onto, prelude}
+use Rattle.hv_lines.specs.Drafts.{with_budget}
 use Rattle.hv_lines.specs.Good.{AreGood, IsGood}
 use Rattle.hv_lines.specs.Judged.{Concludes}
 use Rattle.hv_lines.specs.Numbering.{IsTable, expr_at, expr_count, known_count}
@@ -30,7 +31,7 @@ use Rattle.hv_lines.proofs.Drafting.{good_of, good_prelude, next_not, table_of}
 use Rattle.hv_lines.proofs.Extended.{HasPrelude, prelude_has, prelude_onto}
 use Rattle.hv_lines.proofs.Laws.{expr_at_here, expr_below}
 use Rattle.hv_lines.proofs.Lengths.{clauses_short, decimal_short, short_two, weight}
-use Rattle.hv_trap.specs.Written.{trap_block, trap_proof, with_trap_budget}
+use Rattle.hv_trap.specs.Written.{trap_block, trap_proof}
 use Rattle.hv_trap.proofs.Formulas.{IsTrapFormula, formula_fits, formula_small, formula_two}
 
 module _ (task : Strips) (old : List Line) (good : IsGoodTable task old) (s k : ℕ)
@@ -142,7 +143,7 @@ module _ (task : Strips) (clauses : List (List Literal)) (formula : IsTrapFormul
 
     module _ (breaks : in_clauses clauses (start_state task) ≡ false) where
       pub first : (budget : ℕ) → length clauses ≤ budget → 0 < budget
-          → IsGood (with_trap_budget task budget) Block (L.Known 5 (T.Sub 1 4) W.B1 [])
+          → IsGood (with_budget task budget) Block (L.Known 5 (T.Sub 1 4) W.B1 [])
       first budget enough some =
           good_start task (E.Two clauses) F.Two clauses (two_clausal task clauses) Block 3 refl
           block_table (prelude_onto (trap_block 3 1 clauses) Start block_table prelude_has) 4
@@ -157,7 +158,7 @@ module _ (task : Strips) (clauses : List (List Literal)) (formula : IsTrapFormul
 
       -- they are so with each budget that the clauses don't pass
       pub within_budget : (budget : ℕ) → length clauses ≤ budget → 0 < budget
-          → AreGood (with_trap_budget task budget) (trap_proof clauses)
+          → AreGood (with_budget task budget) (trap_proof clauses)
       within_budget budget enough some =
           all_other (draft_setting task) budget (trap_proof clauses)
           (good_of task (trap_proof clauses) good_trap_proof) (

@@ -4,14 +4,14 @@ use Rattle.std.proofs.Common.{◌≡◌, ◌≤◌, ◌∙◌, Bool, true, false
 use Rattle.std.proofs.Common.{arith}
 use Rattle.std.proofs.lemmas.Bool.{both_ways}
 use Rattle.hv_task.specs.Strips.{Strips, atoms, start_state}
-use Rattle.hv_lines.specs.Drafts.{IsGoodTable}
+use Rattle.hv_lines.specs.Drafts.{IsGoodTable, IsModest}
 use Rattle.hv_lines.specs.Judged.{Concludes}
 use Rattle.hv_lines.specs.declared.line.Line.{Line}
 use Rattle.hv_sets.specs.Truth.{in_clauses}
 use Rattle.hv_sets.specs.declared.literal.Literal.{Literal}
 use Rattle.hv_propagation.specs.Clauses.{AreClauses}
 use Rattle.hv_trap.specs.Trap.{AreTrapClauses, IsSatisfied}
-use Rattle.hv_trap.specs.Written.{IsModestTrap, IsTrapProof, trap_proof}
+use Rattle.hv_trap.specs.Written.{IsTrapProof, trap_proof}
 use Rattle.hv_trap.proofs.Block.{good_trap_proof, lines_brief, trap_concludes, within_budget}
 use Rattle.hv_trap.proofs.Enclosing.{enclose_below}
 use Rattle.hv_trap.proofs.Formulas.{IsTrapFormula, trap_formula}
@@ -40,11 +40,11 @@ trap_proof_ends task lines (c, trap, is) = subst Concludes (sym is) (trap_conclu
 -- what it costs, and how long its lines are
 pub trap_modest : (task : Strips) (lines : List Line) → atoms task ≤ 64
     → IsSatisfied task (start_state task) → IsTrapProof task lines
-    → IsModestTrap task 6112 lines
+    → IsModest task 6112 lines
 trap_modest task lines few satisfied (c, trap, is) =
     let formula : IsTrapFormula task c = trap_formula task c few trap in
     let breaks = (trap_satisfied task c trap (start_state task)).1 satisfied in
-    subst (IsModestTrap task 6112) (sym is) record {
+    subst (IsModest task 6112) (sym is) record {
       cost = within_budget task c formula breaks 6112 formula.few (omega arith);
       bytes = lines_brief task c formula breaks;
     }

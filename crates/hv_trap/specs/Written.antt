@@ -1,13 +1,9 @@
 -- The proof that is written where the initial state satisfies a conjunction of the greatest trap:
 -- the states that satisfy one are dead.
-use Rattle.std.specs.Prelude.{◌≡◌, ◌≤◌, ◌+◌, ℕ, List, [], ◌∷◌, length}
-use Rattle.std.specs.List.{All}
+use Rattle.std.specs.Prelude.{◌≡◌, ◌+◌, ℕ, List, [], ◌∷◌}
 use Rattle.hv_task.specs.Strips.{Strips}
 use Rattle.hv_sets.specs.declared.literal.Literal.{Literal}
-use Rattle.hv_lines.specs.Drafts.{conclusion, draft_setting, onto, prelude}
-use Rattle.hv_lines.specs.Good.{AreGood}
-use Rattle.hv_lines.specs.Setting.{Setting, setting_of}
-use Rattle.hv_lines.specs.Spelling.{spelling_of}
+use Rattle.hv_lines.specs.Drafts.{conclusion, onto, prelude}
 use Rattle.hv_lines.specs.declared.line.Expr.TheVariants as E
 use Rattle.hv_lines.specs.declared.line.Line.{Line}
 use Rattle.hv_lines.specs.declared.line.Line.TheVariants as L
@@ -39,13 +35,3 @@ trap_proof clauses = onto (conclusion 5 4 4) (onto (trap_block 3 1 clauses) (ont
 abbrev pub IsTrapProof : Strips → List Line → Type 0
 IsTrapProof task lines =
     (clauses : List (List Literal)) × AreTrapClauses task clauses × (lines ≡ trap_proof clauses)
-
--- what a draft for the task is judged by, with this budget in place of the default one
-abbrev pub with_trap_budget : Strips → ℕ → Setting
-with_trap_budget task budget = setting_of task (draft_setting task).nodes budget
-
--- no query of the lines costs more than so many clauses, since with that budget they are good too;
--- and no line is longer than 7,400,000 bytes
-pub record IsModestTrap (task : Strips) (clauses : ℕ) (lines : List Line) : Type 0 where
-  pub cost : AreGood (with_trap_budget task clauses) lines
-  pub bytes : All (λ line. length (spelling_of line) ≤ 7400000) lines

@@ -5,11 +5,11 @@ ghost use Rattle.hv_task.specs.Deadness.{AreDead};
 ghost use Rattle.hv_task.specs.Strips.{Strips, atoms, is_goal, start_state};
 ghost use Rattle.hv_sets.specs.Truth.{in_clauses};
 ghost use Rattle.hv_sets.specs.declared.literal.Literal.{Literal};
-ghost use Rattle.hv_lines.specs.Drafts.{IsGoodTable};
+ghost use Rattle.hv_lines.specs.Drafts.{IsGoodTable, IsModest};
 ghost use Rattle.hv_lines.specs.Judged.{Concludes};
 ghost use Rattle.hv_lines.specs.declared.line.Line.{Line};
 ghost use Rattle.hv_trap.specs.Trap.{AreTrapClauses, IsSatisfied, Stays};
-ghost use Rattle.hv_trap.specs.Written.{IsModestTrap, IsTrapProof};
+ghost use Rattle.hv_trap.specs.Written.{IsTrapProof};
 
 /// Does nothing: its contract states that a task has one list of clauses of its greatest trap; that
 /// they are true in the states that satisfy no conjunction of the greatest trap, and in no others;
@@ -47,5 +47,5 @@ pub fn laws_of_trap_proofs()
         → Concludes lines }
     ensures modest { (task : Strips) (lines : List Line) → atoms task ≤ 64
         → IsSatisfied task (start_state task) → IsTrapProof task lines
-        → IsModestTrap task 6112 lines }
+        → IsModest task 6112 lines }
 {}
