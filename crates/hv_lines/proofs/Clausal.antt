@@ -7,17 +7,18 @@ use Rattle.std.proofs.Common.{inl, inr, arith}
 use Rattle.std.proofs.lemmas.Bool.{both_ways, cases_Bool, false_from_ne_true}
 use Rattle.std.proofs.lemmas.Option.{slice_get-map}
 use Rattle.std.specs.List.{Contains, slice_get}
-use Rattle.hv_task.specs.declared.action.Action.{Action}
-use Rattle.hv_task.specs.State.{applicable, successor}
-use Rattle.hv_task.specs.Strips.{Strips, IsState, atoms, is_goal, start_state}
+use Rattle.hv_task.specs.State.{successor}
+use Rattle.hv_task.specs.Strips.{Strips, IsState, atoms, start_state}
 use Rattle.hv_sets.specs.Cost.{choices_of, clauses_of}
 use Rattle.hv_sets.specs.Query.{is_clash}
 use Rattle.hv_sets.specs.Truth.{in_clauses}
 use Rattle.hv_sets.specs.declared.literal.Literal.{Literal}
 use Rattle.hv_sets.specs.declared.query.Query.{Query}
 use Rattle.hv_bdd.specs.Nodes.{NodeList, no_nodes}
+use Rattle.hv_lines.specs.DeadLines.{step_by, word_by}
 use Rattle.hv_lines.specs.Drafts.{with_budget}
 use Rattle.hv_lines.specs.Good.{IsBasicWord, IsGood, IsRuleWord}
+use Rattle.hv_lines.specs.Working.DeadLines.{AreDeadEnd}
 use Rattle.hv_lines.specs.Working.Good.{IsFormed}
 use Rattle.hv_lines.specs.Literals.{IsFormula}
 use Rattle.hv_lines.specs.Meaning.{IsAfter, IsBefore, IsTrueStatement, SetOfStates, acts_of}
@@ -92,24 +93,7 @@ good_true setting lines table q id left right word formed basic no_rule is offer
       ),
     )
 
--- no action leads out of the states in which the clauses have this truth, and none of these is a
--- goal state
-pub record AreDeadEnd (task : Strips) (truth : Bool) (clauses : List (List Literal)) : Type 0 where
-  pub stays : (k : ℕ) (a : Action) → slice_get task.actions k ≡ Some a
-      → (state : List Bool) → IsState task state → applicable a state ≡ true
-      → in_clauses clauses state ≡ truth → in_clauses clauses (successor a state) ≡ truth
-  pub goalless : (state : List Bool) → IsState task state → in_clauses clauses state ≡ truth
-      → is_goal task state ≡ true → ⊥
-
--- the step and its word, by whether it goes forwards
-
-abbrev pub step_by : Bool → ℕ → Expr
-step_by true set = E.After set 0
-step_by false set = E.Before set 0
-
-abbrev pub word_by : Bool → Word
-word_by true = W.B2
-word_by false = W.B3
+-- the step and its word
 
 step_asked : (forwards : Bool) (set : ℕ)
     → asked_step (word_by forwards) (step_by forwards set) ≡ Some (set, 0)

@@ -29,3 +29,4 @@ pub mod SignedSides
 pub mod Clausal
 pub mod DeadLines
 pub mod Outcomes
+pub mod Blocks

@@ -15,5 +15,6 @@ pub mod Good
 pub mod Versions
 pub mod Judged
 pub mod Drafts
+pub mod DeadLines
 pub mod Pruning
 pub mod Working

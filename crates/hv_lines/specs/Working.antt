@@ -2,4 +2,5 @@
 pub mod Setting
 pub mod TableState
 pub mod Good
+pub mod DeadLines
 pub mod Pruning

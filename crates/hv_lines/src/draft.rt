@@ -16,11 +16,14 @@
 //! and its own lines before the block are good.
 
 ghost use Rattle.std.specs.Prelude.{◌≡◌, ◌<◌, ◌≤◌, ◌+◌, ◌^◌, ◌∷◌, [], length, IfOk, OnOk, OnErr};
+ghost use Rattle.hv_lines.specs.DeadLines.{dead_lines, rule_by, step_by, word_by};
 ghost use Rattle.hv_lines.specs.Drafts.{IsGoodNext, IsGoodTable, conclusion, id_of, most_lines};
 ghost use Rattle.hv_lines.specs.Drafts.{onto, prelude};
 ghost use Rattle.hv_lines.specs.Pruning.{BeginsAsDraft};
+ghost use Rattle.hv_lines.specs.declared.line.Line.TheVariants as L;
 
 use crate::line::{Acts, Constant, Expr, Line, Statement, Word};
+use crate::note::Note;
 use crate::premises::Premises;
 use crate::table::Table;
 use hv_task::Task;
@@ -142,25 +145,97 @@ pub fn conclusion(alloc: Global, id: usize, dead: usize, by: usize) -> Result<Ve
     ensures { IfOk result (λ lines. lines.items ≡ conclusion id dead by) }
 {
     Ok(vec![in alloc;
-        Line::Known {
-            id,
-            statement: Statement::Sub(1, dead),
-            word: Word::B1,
-            premises: Premises::none(),
-        },
-        Line::Known {
-            id: id + 1,
-            statement: Statement::Dead(1),
-            word: Word::Sd,
-            premises: Premises::two(id, by),
-        },
-        Line::Known {
-            id: id + 2,
-            statement: Statement::Unsolvable,
-            word: Word::Ci,
-            premises: Premises::one(id + 1),
-        },
+        claim_line(id, Statement::Sub(1, dead), Word::B1, Premises::none()),
+        claim_line(id + 1, Statement::Dead(1), Word::Sd, Premises::two(id, by)),
+        claim_line(
+            id + 2,
+            Statement::Unsolvable,
+            Word::Ci,
+            Premises::one(id + 1)
+        ),
     ]?)
+}
+
+/// The seven lines which show that the newest set, `dead`, is dead, where the line of `union` says
+/// so of another one. Where the step goes forwards, it is the formula `set` itself; otherwise it is
+/// the negation of that formula. The first statement has the identifier `id`.
+pub fn dead_lines(
+    alloc: Global,
+    forwards: bool,
+    set: usize,
+    dead: usize,
+    union: Note,
+    id: usize,
+) -> Result<Vec<Line>, AllocError>
+    requires dead { dead + 3 < 2 ^ 64 }
+    requires id { id + 3 < 2 ^ 64 }
+    ensures { IfOk result (λ lines. lines.items ≡ dead_lines forwards set dead union id) }
+{
+    let step = Statement::Sub(dead + 1, dead + 2);
+    let by = Premises::three(id, union.line, id + 2);
+    Ok(vec![in alloc;
+        set_line(dead + 1, step_by(forwards, set)),
+        set_line(dead + 2, Expr::Or(set, union.set)),
+        set_line(dead + 3, Expr::And(dead, 2)),
+        claim_line(id, step, word_by(forwards), Premises::none()),
+        claim_line(
+            id + 1,
+            Statement::Sub(dead + 3, 0),
+            Word::B1,
+            Premises::none()
+        ),
+        claim_line(
+            id + 2,
+            Statement::Dead(dead + 3),
+            Word::Sd,
+            Premises::two(id + 1, 0)
+        ),
+        claim_line(id + 3, Statement::Dead(dead), rule_by(forwards), by),
+    ]?)
+}
+
+// The step from the set, or back from it, by all actions.
+fn step_by(forwards: bool, set: usize) -> Expr
+    ensures { result ≡ step_by forwards set }
+{
+    if forwards {
+        Expr::After(set, 0)
+    } else {
+        Expr::Before(set, 0)
+    }
+}
+
+// The word of a statement about such a step.
+fn word_by(forwards: bool) -> Word
+    ensures { result ≡ word_by forwards }
+{
+    if forwards { Word::B2 } else { Word::B3 }
+}
+
+// The rule that concludes from such a step.
+fn rule_by(forwards: bool) -> Word
+    ensures { result ≡ rule_by forwards }
+{
+    if forwards { Word::Pg } else { Word::Rg }
+}
+
+// The line of a set.
+fn set_line(id: usize, expr: Expr) -> Line
+    ensures { result ≡ L.Expr id expr }
+{
+    Line::Expr { id, expr }
+}
+
+// The line of a claim.
+fn claim_line(id: usize, statement: Statement, word: Word, premises: Premises) -> Line
+    ensures { result ≡ L.Known id statement word premises }
+{
+    Line::Known {
+        id,
+        statement,
+        word,
+        premises,
+    }
 }
 
 /// The table with which every draft begins.
@@ -183,24 +258,10 @@ fn prelude(alloc: Global) -> Result<Vec<Line>, AllocError>
             id: 0,
             acts: Acts::All,
         },
-        Line::Expr {
-            id: 0,
-            expr: Expr::Constant(Constant::Empty),
-        },
-        Line::Expr {
-            id: 1,
-            expr: Expr::Constant(Constant::Start),
-        },
-        Line::Expr {
-            id: 2,
-            expr: Expr::Constant(Constant::Goal),
-        },
-        Line::Known {
-            id: 0,
-            statement: Statement::Dead(0),
-            word: Word::Ed,
-            premises: Premises::none(),
-        },
+        set_line(0, Expr::Constant(Constant::Empty)),
+        set_line(1, Expr::Constant(Constant::Start)),
+        set_line(2, Expr::Constant(Constant::Goal)),
+        claim_line(0, Statement::Dead(0), Word::Ed, Premises::none()),
     ]?)
 }
 

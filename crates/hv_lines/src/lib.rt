@@ -27,7 +27,7 @@ pub mod verdict;
 pub mod words;
 
 pub use action_list::ActionList;
-pub use draft::{Draft, conclusion};
+pub use draft::{Draft, conclusion, dead_lines};
 pub use formula_family::FormulaFamily;
 pub use line::{Acts, Constant, Expr, Line, Statement, Word};
 pub use note::Note;

@@ -378,13 +378,15 @@ module _ (task : Strips) (start : List Bool) (r : ℕ → Bool)
   relaxed_dead = record {
     denials = relaxed_denials (atoms task) r;
     few = omega (arith, relaxed_few (atoms task) r, few);
-    stays = λ k a at s is_state applies holds.
-        relaxed_from (atoms task) (successor a s) (length-successor a s ∙ is_state) r
-        (reached_stay task start r atom_closed k a at s applies
-        (relaxed_to (atoms task) s is_state r holds));
-    goalless = λ s is_state holds goal.
-        out.2 ((is out.0).0 (relaxed_to (atoms task) s is_state r holds out.0
-        (goal_held task s out.0 goal out.1)));
+    ends = record {
+      stays = λ k a at s is_state applies holds.
+          relaxed_from (atoms task) (successor a s) (length-successor a s ∙ is_state) r
+          (reached_stay task start r atom_closed k a at s applies
+          (relaxed_to (atoms task) s is_state r holds));
+      goalless = λ s is_state holds goal.
+          out.2 ((is out.0).0 (relaxed_to (atoms task) s is_state r holds out.0
+          (goal_held task s out.0 goal out.1)));
+    };
   }
 
   -- it holds the state from which the atoms are reached, and only states from which the same goal
@@ -416,14 +418,16 @@ module _ (task : Strips) (start : List Bool) (r : ℕ → ℕ → Bool)
     pairs_dead = record {
       denials = pairs_denials (atoms task) r;
       few = omega (arith, pairs_few (atoms task) r few);
-      stays = λ k a at s is_state applies holds.
-          pairs_from (atoms task) (successor a s) (length-successor a s ∙ is_state) r
-          (pairs_stay task start r pair_closed k a at s applies
-          (pairs_to (atoms task) s is_state r pair_closed.even holds));
-      goalless = λ s is_state holds goal.
-          out.4 ((is out.0 out.1).0 (pairs_to (atoms task) s is_state r pair_closed.even holds out.0
-          out.1
-          (goal_held task s out.0 goal out.2) (goal_held task s out.1 goal out.3)));
+      ends = record {
+        stays = λ k a at s is_state applies holds.
+            pairs_from (atoms task) (successor a s) (length-successor a s ∙ is_state) r
+            (pairs_stay task start r pair_closed k a at s applies
+            (pairs_to (atoms task) s is_state r pair_closed.even holds));
+        goalless = λ s is_state holds goal.
+            out.4 ((is out.0 out.1).0 (pairs_to (atoms task) s is_state r pair_closed.even holds
+            out.0 out.1
+            (goal_held task s out.0 goal out.2) (goal_held task s out.1 goal out.3)));
+      };
     }
 
     -- it holds the state from which the pairs are reached, and only states from which the same goal

@@ -1,14 +1,16 @@
 -- The lines of a proof are determined by the task, and they are good and conclude where the goal is
 -- excluded.
-use Rattle.std.proofs.Common.{◌≡◌, ◌≤◌, ◌∙◌, List, length, sym, ap, subst}
+use Rattle.std.proofs.Common.{◌≡◌, ◌≤◌, ◌∙◌, true, List, length, sym, ap, subst}
 use Rattle.std.specs.Cmp.Derive.{one_truth}
 use Rattle.hv_task.specs.Strips.{Strips, IsTask, atoms}
 use Rattle.hv_lines.specs.Drafts.{IsGoodTable}
 use Rattle.hv_lines.specs.Judged.{Concludes}
+use Rattle.hv_lines.specs.declared.line.Expr.TheVariants as E
 use Rattle.hv_lines.specs.declared.line.Line.{Line}
+use Rattle.hv_lines.proofs.Blocks.{formula_concludes}
 use Rattle.hv_reach.specs.Written.{IsPairsProof, IsRelaxedProof, PairsExclude, RelaxedExcludes}
 use Rattle.hv_reach.specs.Written.{horn_proof, pairs_formula, relaxed_formula}
-use Rattle.hv_reach.proofs.Block.{good_horn_proof, horn_concludes}
+use Rattle.hv_reach.proofs.Block.{good_horn_proof}
 use Rattle.hv_reach.proofs.Denials.{pairs_separates, relaxed_separates}
 
 pub relaxed_good : (task : Strips) (lines : List Line) → IsTask task → RelaxedExcludes task
@@ -23,8 +25,7 @@ pub relaxed_ends : (task : Strips) (lines : List Line) → IsTask task → Relax
     → IsRelaxedProof task lines → Concludes lines
 relaxed_ends task lines is_task out (r, each, is) =
     subst Concludes (sym is)
-    (horn_concludes task is_task (relaxed_formula (atoms task) r)
-    (relaxed_separates task r each is_task.few_atoms out))
+    (formula_concludes task true (E.Horn (relaxed_formula (atoms task) r)))
 
 pub pairs_good : (task : Strips) (lines : List Line) → IsTask task → atoms task ≤ 1024
     → PairsExclude task → IsPairsProof task lines
@@ -38,8 +39,7 @@ pub pairs_end : (task : Strips) (lines : List Line) → IsTask task → atoms ta
     → PairsExclude task → IsPairsProof task lines
     → Concludes lines
 pairs_end task lines is_task few out (r, each, is) =
-    subst Concludes (sym is) (horn_concludes task is_task (pairs_formula (atoms task) r)
-    (pairs_separates task r each few out))
+    subst Concludes (sym is) (formula_concludes task true (E.Horn (pairs_formula (atoms task) r)))
 
 pub relaxed_size : (task : Strips) (lines : List Line) → IsRelaxedProof task lines
     → length lines ≡ 16

@@ -1,16 +1,15 @@
 -- The proofs that are written where the goal isn't reached: the states that hold no unreached atom,
 -- or no unreached pair, are dead, and the initial state is one of them.
-use Rattle.std.specs.Prelude.{◌≡◌, ◌+◌, ◌-◌, ◌<◌, ◌≤◌, ◌==◌, ◌↔◌, ℕ, Bool, true, false, List, []}
+use Rattle.std.specs.Prelude.{◌≡◌, ◌-◌, ◌<◌, ◌≤◌, ◌==◌, ◌↔◌, ℕ, Bool, true, false, List, []}
 use Rattle.std.specs.Prelude.{◌∷◌, length, if◌then◌else◌}
 use Rattle.std.specs.List.{All, Contains, flat_map, range_with_len}
 use Rattle.hv_task.specs.Strips.{Strips, atoms, start_state}
 use Rattle.hv_sets.specs.declared.literal.Literal.{Literal}
+use Rattle.hv_lines.specs.DeadLines.{dead_lines, empty_note}
 use Rattle.hv_lines.specs.Drafts.{conclusion, onto, prelude}
 use Rattle.hv_lines.specs.declared.line.Expr.TheVariants as E
 use Rattle.hv_lines.specs.declared.line.Line.{Line}
 use Rattle.hv_lines.specs.declared.line.Line.TheVariants as L
-use Rattle.hv_lines.specs.declared.line.Statement.TheVariants as T
-use Rattle.hv_lines.specs.declared.line.Word.TheVariants as W
 use Rattle.hv_reach.specs.Reached.{ReachedAtom, ReachedPair}
 
 -- the goal has an atom that isn't reached from the state
@@ -62,16 +61,7 @@ pairs_formula atoms reached = flat_map (row_clauses atoms reached) (range_with_l
 -- The eight lines which show that the states of a Horn formula are dead, where no action leads out
 -- of them and none is a goal state. The formula is set m, and the first statement is line k.
 abbrev pub dead_block : ℕ → ℕ → List (List Literal) → List Line
-dead_block m k clauses =
-    L.Expr m (E.Horn clauses)
-    ∷ L.Expr (m + 1) (E.After m 0)
-    ∷ L.Expr (m + 2) (E.Or m 0)
-    ∷ L.Expr (m + 3) (E.And m 2)
-    ∷ L.Known k (T.Sub (m + 1) (m + 2)) W.B2 []
-    ∷ L.Known (k + 1) (T.Sub (m + 3) 0) W.B1 []
-    ∷ L.Known (k + 2) (T.Dead (m + 3)) W.Sd ((k + 1) ∷ 0 ∷ [])
-    ∷ L.Known (k + 3) (T.Dead m) W.Pg (k ∷ 0 ∷ (k + 2) ∷ [])
-    ∷ []
+dead_block m k clauses = L.Expr m (E.Horn clauses) ∷ dead_lines true m m empty_note k
 
 -- the sixteen lines of the proof by a Horn formula, the newest first
 abbrev pub horn_proof : List (List Literal) → List Line

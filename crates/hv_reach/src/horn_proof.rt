@@ -9,7 +9,7 @@ ghost use Rattle.hv_lines.specs.Judged.{Concludes};
 ghost use Rattle.hv_reach.specs.Written.{dead_block, denied, horn_proof};
 ghost use Rattle.hv_reach.specs.Working.Written.{Separates};
 
-use hv_lines::{Draft, Expr, Line, Premises, Statement, Word, conclusion};
+use hv_lines::{Draft, Expr, Line, Note, conclusion, dead_lines};
 use hv_sets::{Clauses, Literal};
 use hv_task::Task;
 use std::alloc::{AllocError, Global};
@@ -54,46 +54,13 @@ pub(crate) fn dead_block(
     requires id { id + 3 < 2 ^ 64 }
     ensures { IfOk result (λ lines. lines.items ≡ dead_block set id clauses) }
 {
-    Ok(vec![in alloc;
+    let mut lines = vec![in alloc;
         Line::Expr {
             id: set,
             expr: Expr::Horn(clauses),
         },
-        Line::Expr {
-            id: set + 1,
-            expr: Expr::After(set, 0),
-        },
-        Line::Expr {
-            id: set + 2,
-            expr: Expr::Or(set, 0),
-        },
-        Line::Expr {
-            id: set + 3,
-            expr: Expr::And(set, 2),
-        },
-        Line::Known {
-            id,
-            statement: Statement::Sub(set + 1, set + 2),
-            word: Word::B2,
-            premises: Premises::none(),
-        },
-        Line::Known {
-            id: id + 1,
-            statement: Statement::Sub(set + 3, 0),
-            word: Word::B1,
-            premises: Premises::none(),
-        },
-        Line::Known {
-            id: id + 2,
-            statement: Statement::Dead(set + 3),
-            word: Word::Sd,
-            premises: Premises::two(id + 1, 0),
-        },
-        Line::Known {
-            id: id + 3,
-            statement: Statement::Dead(set),
-            word: Word::Pg,
-            premises: Premises::three(id, 0, id + 2),
-        },
-    ]?)
+    ]?;
+    let mut rest = dead_lines(alloc, true, set, set, Note::empty(), id)?;
+    lines.append(&mut rest)?;
+    Ok(lines)
 }

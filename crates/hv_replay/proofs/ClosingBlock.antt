@@ -6,6 +6,7 @@ use Rattle.std.proofs.lemmas.List.Elements.{Contains-push}
 use Rattle.hv_task.specs.State.{successor}
 use Rattle.hv_task.specs.Strips.{Strips, IsTask, atoms}
 use Rattle.hv_sets.specs.Truth.{InStates}
+use Rattle.hv_lines.specs.DeadLines.{dead_lines}
 use Rattle.hv_lines.specs.Drafts.{IsGoodTable, IsShortLine, conclusion, draft_setting, onto}
 use Rattle.hv_lines.specs.Good.{IsGood}
 use Rattle.hv_lines.specs.Meaning.{IsAfter, acts_of}
@@ -24,7 +25,7 @@ use Rattle.hv_lines.specs.declared.line.Word.TheVariants as W
 use Rattle.hv_lines.specs.declared.note.Note.{Note}
 use Rattle.hv_lines.proofs.Carried.{expr_onto, known_onto}
 use Rattle.hv_lines.proofs.Clausal.{constant_signed, second_in}
-use Rattle.hv_lines.proofs.DeadLines.{AreNext, at_both, at_meet, at_step, claim_said, dead_lines}
+use Rattle.hv_lines.proofs.DeadLines.{AreNext, at_both, at_meet, at_step, claim_said}
 use Rattle.hv_lines.proofs.DeadLines.{good_dead, good_sets}
 use Rattle.hv_lines.proofs.Drafting.{below_two, formed_expr, formed_sub, good_conclusion}
 use Rattle.hv_lines.proofs.Drafting.{good_expr, next_rule, table_of}
@@ -150,19 +151,16 @@ module _ (task : Strips) (is_task : IsTask task) (old : List Line) (good : IsGoo
   literal : IsLiteralOf With s s true
   literal = (refl, (E.States states, expr_at_here s (E.States states) old, inl tt))
 
-  next : AreNext With (s + 1) (s + 2) (s + 3) k
+  next : AreNext With s k
   next = record {
-    step_is = omega (arith, s_is);
-    both_is = omega (arith, s_is);
-    meet_is = omega (arith, s_is);
+    set_is = omega (arith, s_is);
     claim_is = k_is;
-    few_sets = omega (arith, s_is, s_few);
-    few_claims = omega (arith, k_is, k_few);
+    few_sets = s_few;
+    few_claims = omega (arith, k_few);
   }
 
   sets : IsGoodTable task Sets
-  sets = good_sets task With good_with begun true s s literal union.set union.line is_union.says
-      (s + 1) (s + 2) (s + 3) k next
+  sets = good_sets task With good_with begun true s s literal union is_union.says k next
 
   sets_table : IsTable Sets
   sets_table = table_of task Sets sets
@@ -173,16 +171,13 @@ module _ (task : Strips) (is_task : IsTask task) (old : List Line) (good : IsGoo
       (expr_at_here s (E.States states) old)
 
   after_is : expr_at Sets (s + 1) ≡ Some (E.After s 0)
-  after_is = at_step task With good_with begun true s s literal union.set union.line is_union.says
-      (s + 1) (s + 2) (s + 3) k next
+  after_is = at_step task With good_with begun true s s literal union is_union.says k next
 
   or_is : expr_at Sets (s + 2) ≡ Some (E.Or s union.set)
-  or_is = at_both task With good_with begun true s s literal union.set union.line is_union.says
-      (s + 1) (s + 2) (s + 3) k next
+  or_is = at_both task With good_with begun true s s literal union is_union.says k next
 
   and_is : expr_at Sets (s + 3) ≡ Some (E.And s 2)
-  and_is = at_meet task With good_with begun true s s literal union.set union.line is_union.says
-      (s + 1) (s + 2) (s + 3) k next
+  and_is = at_meet task With good_with begun true s s literal union is_union.says k next
 
   abbrev four : List Line
   four = L.Expr s (E.States states) ∷ L.Expr (s + 1) (E.After s 0)
@@ -259,14 +254,14 @@ module _ (task : Strips) (is_task : IsTask task) (old : List Line) (good : IsGoo
       (set_out task setting.nodes Led 2 (E.Constant C.Goal) led_table led_begun.goal state w.1)))
 
   abbrev Dead : List Line
-  Dead = onto (dead_lines true s s union.set union.line (s + 1) (s + 2) (s + 3) k) With
+  Dead = onto (dead_lines true s s union k) With
 
   good_expanded : IsGoodTable task Dead
-  good_expanded = good_dead task With good_with begun true s s literal union.set union.line
-      is_union.says (s + 1) (s + 2) (s + 3) k next leads misses
+  good_expanded = good_dead task With good_with begun true s s literal union is_union.says k next
+      leads misses
 
   says : statement_at Dead union.line ≡ Some (T.Dead union.set)
-  says = known_onto (dead_lines true s s union.set union.line (s + 1) (s + 2) (s + 3) k) With
+  says = known_onto (dead_lines true s s union k) With
       union.line (T.Dead union.set) (table_of task Dead good_expanded) is_union.says
 
   -- the nine lines are good
@@ -280,7 +275,7 @@ module _ (task : Strips) (is_task : IsTask task) (old : List Line) (good : IsGoo
           s,
           union.set,
           or_is,
-          claim_said With true s s union.set union.line (s + 1) (s + 2) (s + 3) k,
+          claim_said With true s s union k,
           says,
         ),
     good_expanded,

@@ -1,6 +1,7 @@
 -- The lines with which a replay ends. The expanded states lead only to each other and to the union
 -- of the pruned ones, none of them holds the goal, and the initial state is among all these.
-use Rattle.std.specs.Prelude.{◌+◌, ℕ, List, [], ◌∷◌, ◌++◌}
+use Rattle.std.specs.Prelude.{◌+◌, ℕ, true, List, [], ◌∷◌, ◌++◌}
+use Rattle.hv_lines.specs.DeadLines.{dead_lines}
 use Rattle.hv_lines.specs.Drafts.{conclusion}
 use Rattle.hv_lines.specs.declared.line.Expr.TheVariants as E
 use Rattle.hv_lines.specs.declared.line.Line.{Line}
@@ -15,14 +16,8 @@ use Rattle.hv_lines.specs.declared.note.Note.{Note}
 abbrev pub closing_block : ℕ → ℕ → List (List ℕ) → Note → List Line
 closing_block s k states union =
     L.Expr s (E.States states)
-    ∷ L.Expr (s + 1) (E.After s 0)
-    ∷ L.Expr (s + 2) (E.Or s union.set)
-    ∷ L.Expr (s + 3) (E.And s 2)
-    ∷ L.Known k (T.Sub (s + 1) (s + 2)) W.B2 []
-    ∷ L.Known (k + 1) (T.Sub (s + 3) 0) W.B1 []
-    ∷ L.Known (k + 2) (T.Dead (s + 3)) W.Sd ((k + 1) ∷ 0 ∷ [])
-    ∷ L.Known (k + 3) (T.Dead s) W.Pg (k ∷ union.line ∷ (k + 2) ∷ [])
-    ∷ L.Known (k + 4) (T.Dead (s + 2)) W.Ud ((k + 3) ∷ union.line ∷ [])
+    ∷ dead_lines true s s union k
+    ++ L.Known (k + 4) (T.Dead (s + 2)) W.Ud ((k + 3) ∷ union.line ∷ [])
     ∷ []
 
 -- the twelve lines with which a replay ends: these nine, and the conclusion from the union

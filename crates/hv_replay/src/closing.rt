@@ -13,7 +13,7 @@ ghost use Rattle.hv_replay.specs.Working.ClosingLines.{IsClosedSearch};
 ghost use Rattle.hv_replay.specs.Working.PrunedLines.{IsPrunedUnion, most_pruned};
 
 use crate::pruned::next_in;
-use hv_lines::{Draft, Expr, Line, Note, Premises, Statement, Word, conclusion};
+use hv_lines::{Draft, Expr, Line, Note, Premises, Statement, Word, conclusion, dead_lines};
 use hv_sets::StateList;
 use hv_task::Task;
 use std::alloc::{AllocError, Global};
@@ -66,52 +66,19 @@ fn closing_block(
 {
     let set = next.set;
     let id = next.line;
-    Ok(vec![in alloc;
+    let mut lines = vec![in alloc;
         Line::Expr {
             id: set,
             expr: Expr::States(states),
         },
-        Line::Expr {
-            id: set + 1,
-            expr: Expr::After(set, 0),
-        },
-        Line::Expr {
-            id: set + 2,
-            expr: Expr::Or(set, union.set),
-        },
-        Line::Expr {
-            id: set + 3,
-            expr: Expr::And(set, 2),
-        },
-        Line::Known {
-            id,
-            statement: Statement::Sub(set + 1, set + 2),
-            word: Word::B2,
-            premises: Premises::none(),
-        },
-        Line::Known {
-            id: id + 1,
-            statement: Statement::Sub(set + 3, 0),
-            word: Word::B1,
-            premises: Premises::none(),
-        },
-        Line::Known {
-            id: id + 2,
-            statement: Statement::Dead(set + 3),
-            word: Word::Sd,
-            premises: Premises::two(id + 1, 0),
-        },
-        Line::Known {
-            id: id + 3,
-            statement: Statement::Dead(set),
-            word: Word::Pg,
-            premises: Premises::three(id, union.line, id + 2),
-        },
-        Line::Known {
-            id: id + 4,
-            statement: Statement::Dead(set + 2),
-            word: Word::Ud,
-            premises: Premises::two(id + 3, union.line),
-        },
-    ]?)
+    ]?;
+    let mut rest = dead_lines(alloc, true, set, set, union, id)?;
+    lines.append(&mut rest)?;
+    lines.push(Line::Known {
+        id: id + 4,
+        statement: Statement::Dead(set + 2),
+        word: Word::Ud,
+        premises: Premises::two(id + 3, union.line),
+    })?;
+    Ok(lines)
 }

@@ -6,13 +6,15 @@ use Rattle.std.proofs.lemmas.Bool.{both_ways}
 use Rattle.hv_task.specs.Strips.{Strips, atoms, start_state}
 use Rattle.hv_lines.specs.Drafts.{IsGoodTable, IsModest}
 use Rattle.hv_lines.specs.Judged.{Concludes}
+use Rattle.hv_lines.specs.declared.line.Expr.TheVariants as E
 use Rattle.hv_lines.specs.declared.line.Line.{Line}
+use Rattle.hv_lines.proofs.Blocks.{formula_concludes, formula_modest, good_formula_proof}
 use Rattle.hv_sets.specs.Truth.{in_clauses}
 use Rattle.hv_sets.specs.declared.literal.Literal.{Literal}
 use Rattle.hv_propagation.specs.Clauses.{AreClauses}
 use Rattle.hv_trap.specs.Trap.{AreTrapClauses, IsSatisfied}
 use Rattle.hv_trap.specs.Written.{IsTrapProof, trap_proof}
-use Rattle.hv_trap.proofs.Block.{good_trap_proof, lines_brief, trap_concludes, within_budget}
+use Rattle.hv_trap.proofs.Block.{trap_dead, trap_light}
 use Rattle.hv_trap.proofs.Enclosing.{enclose_below}
 use Rattle.hv_trap.proofs.Formulas.{IsTrapFormula, trap_formula}
 use Rattle.hv_trap.proofs.Trapped.{trap_encloses, trap_once, trap_satisfied}
@@ -31,11 +33,12 @@ pub trap_proof_good : (task : Strips) (lines : List Line) → atoms task ≤ 64
     → IsTrapProof task lines → IsGoodTable task lines
 trap_proof_good task lines few satisfied (c, trap, is) =
     subst (IsGoodTable task) (sym is)
-    (good_trap_proof task c (trap_formula task c few trap)
+    (good_formula_proof task false (E.Two c) c (trap_dead task c (trap_formula task c few trap))
     ((trap_satisfied task c trap (start_state task)).1 satisfied))
 
 pub trap_proof_ends : (task : Strips) (lines : List Line) → IsTrapProof task lines → Concludes lines
-trap_proof_ends task lines (c, trap, is) = subst Concludes (sym is) (trap_concludes task c)
+trap_proof_ends task lines (c, trap, is) = subst Concludes (sym is)
+    (formula_concludes task false (E.Two c))
 
 -- what it costs, and how long its lines are
 pub trap_modest : (task : Strips) (lines : List Line) → atoms task ≤ 64
@@ -43,11 +46,10 @@ pub trap_modest : (task : Strips) (lines : List Line) → atoms task ≤ 64
     → IsModest task 6112 lines
 trap_modest task lines few satisfied (c, trap, is) =
     let formula : IsTrapFormula task c = trap_formula task c few trap in
-    let breaks = (trap_satisfied task c trap (start_state task)).1 satisfied in
-    subst (IsModest task 6112) (sym is) record {
-      cost = within_budget task c formula breaks 6112 formula.few (omega arith);
-      bytes = lines_brief task c formula breaks;
-    }
+    subst (IsModest task 6112) (sym is)
+    (formula_modest task false (E.Two c) c (trap_dead task c formula)
+    ((trap_satisfied task c trap (start_state task)).1 satisfied) 6112 formula.few (omega arith)
+    (trap_light task c formula))
 
 -- what the test of the initial state tells
 module _ (task : Strips) (clauses : List (List Literal)) (trap : AreTrapClauses task clauses)

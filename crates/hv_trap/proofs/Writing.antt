@@ -6,30 +6,24 @@ use Rattle.hv_task.specs.Strips.{Strips, IsState, atoms}
 use Rattle.hv_sets.specs.Truth.{in_clauses}
 use Rattle.hv_sets.specs.declared.literal.Literal.{Literal}
 use Rattle.hv_propagation.specs.Clauses.{AreClauses}
-use Rattle.hv_lines.specs.Drafts.{DraftState, IsGoodTable, most_lines, onto}
-use Rattle.hv_lines.specs.Numbering.{IsTable, expr_at, expr_count, known_count}
-use Rattle.hv_lines.specs.Pruning.{BeginsAsDraft, IsNoted, NoneNoted, states_in}
+use Rattle.hv_lines.specs.Drafts.{DraftState, IsGoodTable, onto}
+use Rattle.hv_lines.specs.Numbering.{IsTable, expr_at}
+use Rattle.hv_lines.specs.Pruning.{NoneNoted, states_in}
 use Rattle.hv_lines.specs.Shapes.{IsLiteralOf}
 use Rattle.hv_lines.specs.Working.Pruning.{IsOutcome}
 use Rattle.hv_lines.specs.declared.formula_family.FormulaFamily.TheVariants as F
 use Rattle.hv_lines.specs.declared.line.Expr.TheVariants as E
 use Rattle.hv_lines.specs.declared.line.Line.{Line}
-use Rattle.hv_lines.specs.declared.line.Line.TheVariants as L
 use Rattle.hv_lines.specs.declared.note.Note.{Note}
-use Rattle.hv_lines.proofs.Carried.{expr_onto}
-use Rattle.hv_lines.proofs.Clausal.{clausal_noted, literal_in, literal_out, two_clausal}
-use Rattle.hv_lines.proofs.DeadLines.{claim_said, dead_lines}
+use Rattle.hv_lines.proofs.Blocks.{outcome_written, written_literal, written_set}
+use Rattle.hv_lines.proofs.Clausal.{literal_in, literal_out, two_clausal}
 use Rattle.hv_lines.proofs.Drafting.{table_of}
-use Rattle.hv_lines.proofs.Extended.{exprs_few, knowns_few, prelude_begins}
-use Rattle.hv_lines.proofs.Laws.{expr_at_here}
-use Rattle.hv_lines.proofs.Outcomes.{outcome_beyond, outcome_block, outcome_noted, put_good}
+use Rattle.hv_lines.proofs.Outcomes.{outcome_beyond, outcome_noted}
 use Rattle.hv_trap.specs.Working.Fitting.{trap_set_kept}
 use Rattle.hv_trap.specs.Pruner.{AreTrapNotes, IsTrapBlock, IsTrapSet, TrapCovers}
 use Rattle.hv_trap.specs.Trap.{AreTrapClauses}
 use Rattle.hv_trap.specs.Written.{trap_block}
-use Rattle.hv_trap.proofs.Block.{good_trap_block}
 use Rattle.hv_trap.proofs.Enclosing.{enclose_below}
-use Rattle.hv_trap.proofs.Formulas.{trap_formula}
 use Rattle.hv_trap.proofs.Trapped.{trap_encloses, trap_satisfied}
 
 -- the clauses of the trap are over the atoms of a state
@@ -102,69 +96,27 @@ pub none_noted : (task : Strips) (lines : List Line) (notes : List Note) (state 
 none_noted task lines [] state none k note at inside = absurd (cc (at))
 none_noted task lines (x ∷ notes) state none k note at inside = none x refl
 
--- the block may be written, after lines that are those of a draft
-pub block_good : (task : Strips) (lines now items : List Line) (set id : ℕ)
-    (clauses : List (List Literal)) → BeginsAsDraft lines → IsGoodTable task lines
-    → length now + 9 ≤ most_lines → now ≡ lines → set ≡ expr_count lines
-    → id ≡ known_count lines → items ≡ trap_block set id clauses → atoms task ≤ 64
-    → AreTrapClauses task clauses → IsGoodTable task (onto items now)
-block_good task lines now items set id clauses begins good few at set_is id_is block small trap =
-    put_good task (trap_block set id clauses) lines items now block at
-    (good_trap_block task lines good set id clauses set_is id_is
-    (omega (arith, few, ap length at, set_is, exprs_few lines))
-    (omega (arith, few, ap length at, id_is, knowns_few lines))
-    (prelude_begins task lines begins good) (trap_formula task clauses small trap))
-
--- where it is written
-
-module _ (task : Strips) (lines : List Line) (clauses : List (List Literal)) (s k : ℕ)
-    (good : IsGoodTable task (onto (trap_block s k clauses) lines)) where
-  abbrev Written : List Line
-  Written = onto (trap_block s k clauses) lines
-
-  abbrev With : List Line
-  With = L.Expr (s + 1) (E.Not s) ∷ L.Expr s (E.Two clauses) ∷ lines
-
-  table : IsTable Written
-  table = table_of task Written good
-
-  written_set : expr_at Written s ≡ Some (E.Two clauses)
-  written_set =
-      expr_onto
-      (L.Expr (s + 1) (E.Not s) ∷ dead_lines false (s + 1) s 0 0 (s + 2) (s + 3) (s + 4) k)
-      (L.Expr s (E.Two clauses) ∷ lines) s (E.Two clauses) table
-      (expr_at_here s (E.Two clauses) lines)
-
-  written_not : expr_at Written (s + 1) ≡ Some (E.Not s)
-  written_not =
-      expr_onto (dead_lines false (s + 1) s 0 0 (s + 2) (s + 3) (s + 4) k) With (s + 1) (E.Not s)
-      table
-      (expr_at_here (s + 1) (E.Not s) (L.Expr s (E.Two clauses) ∷ lines))
-
-  abbrev Noted : Note
-  Noted = record { set = s + 1; line = k + 3 }
-
-  module _ (few : atoms task ≤ 64) (trap : AreTrapClauses task clauses) where
-    written_noted : IsNoted task (TrapCovers task) Written Noted
-    written_noted =
-        clausal_noted task (E.Two clauses) F.Two clauses (two_clausal task clauses) Written s
-        written_set (TrapCovers task) false (s + 1) (k + 3) table
-        (written_not, (E.Two clauses, written_set, inl tt))
-        (claim_said With false (s + 1) s 0 0 (s + 2) (s + 3) (s + 4) k)
-        (λ state is_state breaks. (few, (trap_satisfied task clauses trap state).0 breaks))
-
-    -- no note's literal holds the state, it is covered, and the block is written
-    pub outcome_written : (state : List Bool) → IsState task state → TrapCovers task state
-        → (notes : List Note) → AreTrapNotes task lines notes → NoneNoted task lines notes state
-        → IsTrapBlock task lines (trap_block s k clauses) Noted → (draft new : DraftState)
-        (new_notes : List Note) → draft.lines ≡ lines → new.lines ≡ Written
-        → new_notes ≡ notes ++ Noted ∷ []
-        → IsOutcome task (TrapCovers task) (IsTrapSet task) (IsTrapBlock task lines) state
-        (Some (k + 3)) notes draft new_notes new
-    outcome_written state is_state covered notes fits none block =
-        outcome_block task (TrapCovers task) (IsTrapSet task) (trap_set_kept task) lines
-        (trap_block s k clauses) Noted good written_noted
-        (s, clauses, written_not, written_set, trap) (IsTrapBlock task lines) state notes is_state
-        fits none block
-        (breaks_set task Written table (s + 1) s clauses written_not written_set state
-        ((trap_satisfied task clauses trap state).1 covered.1))
+-- no note's literal holds the state, it is covered, and the block is written and noted
+pub trap_outcome : (task : Strips) (lines : List Line) (clauses : List (List Literal)) (s k : ℕ)
+    → IsGoodTable task (onto (trap_block s k clauses) lines) → atoms task ≤ 64
+    → AreTrapClauses task clauses → (state : List Bool) → IsState task state
+    → TrapCovers task state → (notes : List Note) → AreTrapNotes task lines notes
+    → NoneNoted task lines notes state
+    → IsTrapBlock task lines (trap_block s k clauses) (record { set = s + 1; line = k + 3 })
+    → (draft new : DraftState) (new_notes : List Note) → draft.lines ≡ lines
+    → new.lines ≡ onto (trap_block s k clauses) lines
+    → new_notes ≡ notes ++ record { set = s + 1; line = k + 3 } ∷ []
+    → IsOutcome task (TrapCovers task) (IsTrapSet task) (IsTrapBlock task lines) state
+    (Some (k + 3)) notes draft new_notes new
+trap_outcome task lines clauses s k good few trap state is_state covered notes fits none block =
+    let table = table_of task (onto (trap_block s k clauses) lines) good in
+    let literal = written_literal task (E.Two clauses) F.Two clauses (two_clausal task clauses)
+    lines s k false table in
+    let set = written_set task (E.Two clauses) F.Two clauses (two_clausal task clauses) lines s k
+    false table in
+    outcome_written task (E.Two clauses) F.Two clauses (two_clausal task clauses) lines s k false
+    good (TrapCovers task)
+    (λ other is_other breaks. (few, (trap_satisfied task clauses trap other).0 breaks))
+    (IsTrapSet task) (trap_set_kept task) (s, clauses, literal.0, set, trap)
+    (IsTrapBlock task lines) state notes is_state
+    ((trap_satisfied task clauses trap state).1 covered.1) fits none block

@@ -1,14 +1,13 @@
 -- The proof that is written where the initial state satisfies a conjunction of the greatest trap:
 -- the states that satisfy one are dead.
-use Rattle.std.specs.Prelude.{◌≡◌, ◌+◌, ℕ, List, [], ◌∷◌}
+use Rattle.std.specs.Prelude.{◌≡◌, ◌+◌, ℕ, false, List, [], ◌∷◌}
 use Rattle.hv_task.specs.Strips.{Strips}
 use Rattle.hv_sets.specs.declared.literal.Literal.{Literal}
+use Rattle.hv_lines.specs.DeadLines.{dead_lines, empty_note}
 use Rattle.hv_lines.specs.Drafts.{conclusion, onto, prelude}
 use Rattle.hv_lines.specs.declared.line.Expr.TheVariants as E
 use Rattle.hv_lines.specs.declared.line.Line.{Line}
 use Rattle.hv_lines.specs.declared.line.Line.TheVariants as L
-use Rattle.hv_lines.specs.declared.line.Statement.TheVariants as T
-use Rattle.hv_lines.specs.declared.line.Word.TheVariants as W
 use Rattle.hv_trap.specs.Trap.{AreTrapClauses}
 
 -- The nine lines which show that the states outside a 2CNF formula are dead, where no action leads
@@ -18,14 +17,7 @@ abbrev pub trap_block : ℕ → ℕ → List (List Literal) → List Line
 trap_block s k clauses =
     L.Expr s (E.Two clauses)
     ∷ L.Expr (s + 1) (E.Not s)
-    ∷ L.Expr (s + 2) (E.Before s 0)
-    ∷ L.Expr (s + 3) (E.Or s 0)
-    ∷ L.Expr (s + 4) (E.And (s + 1) 2)
-    ∷ L.Known k (T.Sub (s + 2) (s + 3)) W.B3 []
-    ∷ L.Known (k + 1) (T.Sub (s + 4) 0) W.B1 []
-    ∷ L.Known (k + 2) (T.Dead (s + 4)) W.Sd ((k + 1) ∷ 0 ∷ [])
-    ∷ L.Known (k + 3) (T.Dead (s + 1)) W.Rg (k ∷ 0 ∷ (k + 2) ∷ [])
-    ∷ []
+    ∷ dead_lines false s (s + 1) empty_note k
 
 -- the seventeen lines of the proof by a 2CNF formula, the newest first
 abbrev pub trap_proof : List (List Literal) → List Line

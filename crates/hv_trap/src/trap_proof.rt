@@ -13,7 +13,7 @@ ghost use Rattle.hv_trap.specs.Written.{IsTrapProof, trap_block, trap_proof};
 use crate::fault::TrapFault;
 use crate::trap::greatest_trap;
 use crate::trap_query::are_true_in;
-use hv_lines::{Draft, Expr, Line, Premises, Statement, Word, conclusion};
+use hv_lines::{Draft, Expr, Line, Note, conclusion, dead_lines};
 use hv_sets::Clauses;
 use hv_task::Task;
 use std::alloc::{AllocError, Global};
@@ -86,7 +86,7 @@ pub(crate) fn trap_block(
     requires id { id + 3 < 2 ^ 64 }
     ensures { IfOk result (λ lines. lines.items ≡ trap_block set id clauses) }
 {
-    Ok(vec![in alloc;
+    let mut lines = vec![in alloc;
         Line::Expr {
             id: set,
             expr: Expr::Two(clauses),
@@ -95,41 +95,8 @@ pub(crate) fn trap_block(
             id: set + 1,
             expr: Expr::Not(set),
         },
-        Line::Expr {
-            id: set + 2,
-            expr: Expr::Before(set, 0),
-        },
-        Line::Expr {
-            id: set + 3,
-            expr: Expr::Or(set, 0),
-        },
-        Line::Expr {
-            id: set + 4,
-            expr: Expr::And(set + 1, 2),
-        },
-        Line::Known {
-            id,
-            statement: Statement::Sub(set + 2, set + 3),
-            word: Word::B3,
-            premises: Premises::none(),
-        },
-        Line::Known {
-            id: id + 1,
-            statement: Statement::Sub(set + 4, 0),
-            word: Word::B1,
-            premises: Premises::none(),
-        },
-        Line::Known {
-            id: id + 2,
-            statement: Statement::Dead(set + 4),
-            word: Word::Sd,
-            premises: Premises::two(id + 1, 0),
-        },
-        Line::Known {
-            id: id + 3,
-            statement: Statement::Dead(set + 1),
-            word: Word::Rg,
-            premises: Premises::three(id, 0, id + 2),
-        },
-    ]?)
+    ]?;
+    let mut rest = dead_lines(alloc, false, set, set + 1, Note::empty(), id)?;
+    lines.append(&mut rest)?;
+    Ok(lines)
 }

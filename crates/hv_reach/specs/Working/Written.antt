@@ -1,12 +1,11 @@
 -- Working definitions beside those of `Written`: for private contracts and proofs.
-use Rattle.std.specs.Prelude.{◌≡◌, ◌≤◌, ℕ, Bool, true, List, Some, length, slice_get}
+use Rattle.std.specs.Prelude.{◌≡◌, ◌≤◌, true, List, length}
 use Rattle.std.specs.List.{All}
-use Rattle.hv_task.specs.declared.action.Action.{Action}
-use Rattle.hv_task.specs.State.{applicable, successor}
-use Rattle.hv_task.specs.Strips.{Strips, IsState, atoms, is_goal, start_state}
+use Rattle.hv_task.specs.Strips.{Strips, atoms, start_state}
 use Rattle.hv_sets.specs.Truth.{in_clauses}
 use Rattle.hv_sets.specs.declared.literal.Literal.{Literal}
 use Rattle.hv_lines.specs.Drafts.{default_budget}
+use Rattle.hv_lines.specs.Working.DeadLines.{AreDeadEnd}
 use Rattle.hv_reach.specs.Written.{IsDenial}
 
 -- the formula is one of which a block is good: no action leads out of its states, and none is a
@@ -14,11 +13,7 @@ use Rattle.hv_reach.specs.Written.{IsDenial}
 pub record IsDeadEnd (task : Strips) (clauses : List (List Literal)) : Type 0 where
   pub denials : All (IsDenial (atoms task)) clauses
   pub few : length clauses ≤ default_budget
-  pub stays : (k : ℕ) (a : Action) → slice_get task.actions k ≡ Some a
-      → (state : List Bool) → IsState task state → applicable a state ≡ true
-      → in_clauses clauses state ≡ true → in_clauses clauses (successor a state) ≡ true
-  pub goalless : (state : List Bool) → IsState task state → in_clauses clauses state ≡ true
-      → is_goal task state ≡ true → ⊥
+  pub ends : AreDeadEnd task true clauses
 
 -- the goal isn't reached by the formula: the block is good, and the initial state is in the formula
 pub record Separates (task : Strips) (clauses : List (List Literal)) : Type 0 where

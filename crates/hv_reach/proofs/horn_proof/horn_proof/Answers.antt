@@ -1,9 +1,11 @@
-use Rattle.std.proofs.Common.{[], subst, sym}
+use Rattle.std.proofs.Common.{[], subst, sym, true}
 use Rattle.hv_lines.specs.Drafts.{IsGoodTable, conclusion, onto, prelude}
 use Rattle.hv_lines.specs.Judged.{Concludes}
+use Rattle.hv_lines.specs.declared.line.Expr.TheVariants as E
+use Rattle.hv_lines.proofs.Blocks.{formula_concludes, good_start_block}
 use Rattle.hv_lines.proofs.Outcomes.{put_good, put_is}
 use Rattle.hv_reach.specs.Written.{dead_block}
-use Rattle.hv_reach.proofs.Block.{good_horn_proof, good_start_block, horn_concludes}
+use Rattle.hv_reach.proofs.Block.{good_horn_proof, horn_dead}
 use Rattle.hv_reach.proofs.horn_proof.horn_proof.Goals as goal
 
 pub push_all-requires-clause-good : goal.push_all-requires-clause-good
@@ -11,7 +13,8 @@ push_all-requires-clause-good c =
     put_good c.args.task.now (dead_block 3 1 c.args.clauses) (onto prelude [])
     c.in_ok-block.block.items c.reserve.new.self.lines c.in_ok-block.ensures
     (cc (c.in_ok-reserve.ensures.lines, c.in_ok-draft.ensures.lines))
-    (good_start_block c.args.task.now c.requires.task c.args.clauses c.requires.separates)
+    (good_start_block c.args.task.now true (E.Horn c.args.clauses) c.args.clauses
+    (horn_dead c.args.task.now c.requires.task c.args.clauses c.requires.separates.dead))
 
 pub push_all-requires-2-clause-good : goal.push_all-requires-2-clause-good
 push_all-requires-2-clause-good c =
@@ -40,4 +43,4 @@ returns-clause-good c =
 pub returns-clause-concludes : goal.returns-clause-concludes
 returns-clause-concludes c =
     subst Concludes (sym (returns-clause-lines c))
-    (horn_concludes c.args.task.now c.requires.task c.args.clauses c.requires.separates)
+    (formula_concludes c.args.task.now true (E.Horn c.args.clauses))

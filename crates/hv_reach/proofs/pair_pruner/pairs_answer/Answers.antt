@@ -11,7 +11,7 @@ use Rattle.hv_reach.specs.Working.Pruners.{AreDiagonals}
 use Rattle.hv_reach.specs.Written.{pairs_formula}
 use Rattle.hv_reach.proofs.Described.{diagonals_over, diagonals_pushed}
 use Rattle.hv_reach.proofs.Found.{pairs_found_formula, pairs_found_holds, pairs_found_reason}
-use Rattle.hv_reach.proofs.Writing.{outcome_written, written_described}
+use Rattle.hv_reach.proofs.Writing.{horn_outcome, written_described}
 use Rattle.hv_reach.proofs.pair_pruner.pairs_answer.Goals as goal
 
 pub returns-then-is_some-clause-outcome : goal.returns-then-is_some-clause-outcome
@@ -59,7 +59,7 @@ returns-in_ok-line-in-Some-clause-outcome c =
     subst (λ n. IsOutcome task (PairsCover task) (IsDenied (atoms task))
     (IsPairsBlock task state lines) state (Some n) notes c.args.draft.now
     c.write_pairs.new.noted.notes.items c.write_pairs.new.draft) (sym wrote.line)
-    (outcome_written task lines clauses (expr_count lines) (known_count lines)
+    (horn_outcome task lines clauses (expr_count lines) (known_count lines)
     (subst (IsGoodTable task) wrote.lines wrote.good)
     (PairsCover task) state (pairs_found_reason task c.in-Some.pairs state each
     clauses (atoms task) refl refl c.requires.few c.requires.state out)

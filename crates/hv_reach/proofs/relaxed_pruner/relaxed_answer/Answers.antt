@@ -9,7 +9,7 @@ use Rattle.hv_reach.specs.Pruners.{HoldsAtomsOf, IsDenied, IsRelaxedBlock}
 use Rattle.hv_reach.specs.Written.{RelaxedExcludesFrom}
 use Rattle.hv_reach.proofs.Described.{described_over}
 use Rattle.hv_reach.proofs.Found.{relaxed_found_formula, relaxed_found_holds, relaxed_found_reason}
-use Rattle.hv_reach.proofs.Writing.{outcome_written, written_described}
+use Rattle.hv_reach.proofs.Writing.{horn_outcome, written_described}
 use Rattle.hv_reach.proofs.relaxed_pruner.relaxed_answer.Goals as goal
 
 pub returns-then-is_some-clause-outcome : goal.returns-then-is_some-clause-outcome
@@ -50,7 +50,7 @@ returns-in_ok-line-in-Some-clause-outcome c =
     (IsRelaxedBlock task state lines) state
     (Some n) notes c.args.draft.now
     c.write_block.new.noted.notes.items c.write_block.new.draft) (sym wrote.line)
-    (outcome_written task lines clauses (expr_count lines) (known_count lines)
+    (horn_outcome task lines clauses (expr_count lines) (known_count lines)
     (subst (IsGoodTable task) wrote.lines wrote.good)
     (RelaxedExcludesFrom task) state (relaxed_found_reason task c.in-Some.row size state each
     c.in_ok-clauses-in-Some.clauses c.in_ok-clauses-in-Some.ensures

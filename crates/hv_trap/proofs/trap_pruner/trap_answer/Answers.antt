@@ -10,7 +10,7 @@ use Rattle.hv_lines.specs.Working.Pruning.{IsOutcome}
 use Rattle.hv_trap.specs.Pruner.{IsTrapBlock, IsTrapSet, TrapCovers}
 use Rattle.hv_trap.specs.Trap.{AreTrapClauses}
 use Rattle.hv_lines.proofs.Drafting.{table_of}
-use Rattle.hv_trap.proofs.Writing.{none_noted, outcome_first, outcome_written}
+use Rattle.hv_trap.proofs.Writing.{none_noted, outcome_first, trap_outcome}
 use Rattle.hv_trap.proofs.trap_pruner.trap_answer.Goals as goal
 
 pub line_for-requires-clause-table : goal.line_for-requires-clause-table
@@ -57,7 +57,7 @@ returns-in_ok-line-in-Some-2-clause-outcome c =
     c.args.state.now (Some n) notes c.args.draft.now
     c.write_block.new.notes.items c.write_block.new.draft)
     (sym wrote.line)
-    (outcome_written task lines clauses (expr_count lines) (known_count lines)
+    (trap_outcome task lines clauses (expr_count lines) (known_count lines)
     (subst (IsGoodTable task) wrote.lines wrote.good) covered.0
     trap c.args.state.now c.requires.state covered notes c.requires.fits none
     (clauses, trap, refl, refl, refl) c.args.draft.now c.write_block.new.draft
