@@ -12,6 +12,7 @@ use crate::three::{
 };
 use hv_formula::{ClauseKind, Formula};
 use hv_horn::{DualHornKind, HornKind};
+use hv_paths::{InsideAsk, InsideWalk, meet_along};
 use hv_sets::{Covering, Cube, Cursor, Inside, Literal, Outside, Scratch, StateSet, Step};
 use hv_task::Task;
 use hv_twocnf::{LeanTwoKind, TwoKind};
@@ -447,6 +448,76 @@ fn listing_is_right(alloc: Global, codes: &[u32]) -> Result<bool, AllocError> {
     list_is_right(alloc, &task, codes)
 }
 
+// Whether the plain walk over the left set has a state of the right one where they have these in
+// common. That walk is there for families without a walk of their own.
+fn walk_meets_rightly<L: Inside, R: StateSet>(
+    alloc: Global,
+    left: &L,
+    right: &R,
+    states: u32,
+    scratch: &mut Scratch,
+) -> Result<bool, AllocError>
+    requires { L.atoms left.now ≡ R.atoms right.now }
+{
+    let mut walk = InsideWalk::new(alloc, left);
+    let mut asked = InsideAsk::new(alloc, right);
+    let meets = meet_along(alloc, &mut walk, &mut asked, scratch)?;
+    Ok(is_found(meets, states, scratch.state()))
+}
+
+// The same where the right set is the state of this code.
+fn walk_has_rightly<L: Inside>(
+    alloc: Global,
+    task: &Task,
+    left: &L,
+    mask: u32,
+    code: u32,
+    scratch: &mut Scratch,
+) -> Result<bool, AllocError>
+    requires task { atoms task.now ≡ 3 }
+    requires left { L.atoms left.now ≡ 3 }
+    requires code { code < 8 }
+{
+    let alone = explicit_of(alloc, task, &[code])?;
+    walk_meets_rightly(
+        alloc,
+        left,
+        &alone,
+        bit_if(code, has_bit(mask, code)),
+        scratch,
+    )
+}
+
+// The same for each state.
+fn walk_is_right<L: Inside>(
+    alloc: Global,
+    task: &Task,
+    left: &L,
+    mask: u32,
+) -> Result<bool, AllocError>
+    requires task { atoms task.now ≡ 3 }
+    requires left { L.atoms left.now ≡ 3 }
+{
+    let mut scratch = Scratch::new(alloc)?;
+    let mut right = true;
+    for code in 0..8 {
+        right &= walk_has_rightly(alloc, task, left, mask, code, &mut scratch)?;
+    }
+    Ok(right)
+}
+
+fn plain_walk_is_right(alloc: Global, task: &Task, codes: &[u32]) -> Result<bool, AllocError>
+    requires { atoms task.now ≡ 3 }
+{
+    let set = explicit_of(alloc, task, codes)?;
+    walk_is_right(alloc, task, &set, states_of_list(codes))
+}
+
+fn listing_is_walked(alloc: Global, codes: &[u32]) -> Result<bool, AllocError> {
+    let task = task_of(alloc, 0)?;
+    plain_walk_is_right(alloc, &task, codes)
+}
+
 fn horn_code_is_right(alloc: Global, code: u32) -> Result<bool, Fail> {
     if !is_horn_code(code) {
         return Ok(true);
@@ -511,5 +582,14 @@ fn cubes_of_listed_states_are_answered_as_all_states_say(rt: HostRuntime) -> Res
     assert!(rt; listing_is_right(rt.alloc(), &[6, 5])?);
     assert!(rt; listing_is_right(rt.alloc(), &[7, 2, 7, 4])?);
     assert!(rt; listing_is_right(rt.alloc(), &[7, 6, 5, 4, 3, 2, 1, 0])?);
+    Ok(())
+}
+
+#[test]
+fn plain_walks_over_listed_states_have_these_alone(rt: HostRuntime) -> Result<(), Fail> {
+    assert!(rt; listing_is_walked(rt.alloc(), &[])?);
+    assert!(rt; listing_is_walked(rt.alloc(), &[0])?);
+    assert!(rt; listing_is_walked(rt.alloc(), &[7, 2, 7, 4])?);
+    assert!(rt; listing_is_walked(rt.alloc(), &[7, 6, 5, 4, 3, 2, 1, 0])?);
     Ok(())
 }
