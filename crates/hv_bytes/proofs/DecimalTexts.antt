@@ -84,9 +84,5 @@ pub digits_room : (bytes : List ℕ) (i : ℕ) → i < length bytes → length b
 digits_room bytes i l short digits = digits_value_short digits_model (take i bytes) 17 digits
     (omega (arith, length-take i bytes))
 
-pub short_decimal : (bytes : List ℕ) (n : ℕ) → IsDecimal bytes n → n < 10 ^ 9
-    → IsShortDecimal bytes n
-short_decimal bytes n h small = record { spelled = h.spelled; short = small }
-
 pub decimal_from_short : (bytes : List ℕ) (n : ℕ) → IsShortDecimal bytes n → IsDecimal bytes n
 decimal_from_short bytes n h = record { spelled = h.spelled; short = omega (arith, h.short) }

@@ -41,9 +41,6 @@ module _ {X : Type 0} (p : X → Bool) where
 
 module _ (files : List File) (name : List ℕ) (place : ℕ)
     (at : place ≡ unwrap_or (position (λ file. bytes_eq file.name name) files) (length files)) where
-  has_name : File → Bool
-  has_name file = bytes_eq file.name name
-
   pub place_is : place ≡ position_or_len (λ file. bytes_eq file.name name) files
   place_is = at ∙ unwrap_or-position (λ file. bytes_eq file.name name) files
 

@@ -12,7 +12,7 @@ use Rattle.hv_bytes.proofs.DecimalFronts.{front_decimal, front_last, front_space
 use Rattle.hv_bytes.proofs.DecimalTexts.{digits_model}
 
 -- a digit more
-more_digit : (bytes : List ℕ) (count number digit : ℕ) → count < length bytes
+pub more_digit : (bytes : List ℕ) (count number digit : ℕ) → count < length bytes
     → AllDigits 10 (take count bytes) → number ≡ digits_value 10 (take count bytes) → digit ≤ 9
     → digit + 48 ≡ get_or bytes count 0
     → AllDigits 10 (take (count + 1) bytes)

@@ -9,8 +9,6 @@ use Rattle.std.proofs.lemmas.Bool.{le-leb, leb-true, lt-leb}
 use Rattle.std.proofs.lemmas.List.{map-append}
 use Rattle.std.proofs.lemmas.List.Elements.{All-head, All-tail}
 use Rattle.std.proofs.lemmas.List.Sums.{sum_by-cons}
-use Rattle.hv_bytes.specs.Files.{Names, bytes_of}
-use Rattle.hv_bytes.specs.Working.Files.{file_of}
 use Rattle.hv_bytes.specs.FirstLine.{BeginsLong, FitsLimits, IsFirstLine, IsLong, MovesBytes}
 use Rattle.hv_bytes.specs.FirstLine.{TakesLine, last_byte}
 use Rattle.hv_bytes.specs.LineCuts.{lines_of}
@@ -74,7 +72,7 @@ as_pieces-push : (given : List (List ℕ)) (line : List ℕ)
 as_pieces-push given line = map-append (λ l. Some l) given (line ∷ [])
 
 -- the pieces of the coming bytes, the first of which is a line that was taken off
-pieces_taken : (limits : Limits) (old line new : List ℕ) (before after : ℕ)
+pub pieces_taken : (limits : Limits) (old line new : List ℕ) (before after : ℕ)
     → IsFirstLine old line new → after + length new ≡ before + length old
     → FitsLimits limits.line limits.file before (length line)
     → pieces_after limits before (lines_of old) ≡ Some line
@@ -88,12 +86,6 @@ pieces_taken limits old line new before after first sums fits =
     ap (λ n. Some line ∷ pieces_after limits n (lines_of new)) next)
     (λ last. rw (last.1) refl)
     first.cut
-
--- what holds of the file's bytes, where they are known
-pub known : (files : Option Names) (name : List ℕ) (P : List ℕ → Type 0)
-    → IfSome (file_of files name) P → IfSome files (λ f. P (bytes_of f name))
-known None name P h = tt
-known (Some files) name P h = h
 
 -- one more line
 pub gave_more : (limits : Limits) (file old new : Option (List ℕ)) (given : List (List ℕ))
