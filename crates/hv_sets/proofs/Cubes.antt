@@ -18,11 +18,7 @@ use Rattle.hv_sets.specs.declared.literal.Literal.{Literal}
 use Rattle.hv_sets.specs.Cubes.{Adds, atoms_of, opposite}
 use Rattle.hv_sets.specs.Working.Cubes.{IsFirstUpto}
 
--- the atom at the first place that isn't less is the one, or the atom is absent
-pub place_here : (atoms : List ℕ) (atom place : ℕ) → place < length atoms
-    → get_or atoms place 0 ≡ atom → IsPlaceOf atoms atom (Ok place)
-place_here atoms atom place within e = (within, e)
-
+-- where the atom at the first place that isn't less is another one, the atom is absent
 pub place_absent : (atoms : List ℕ) (atom place : ℕ) → IsStrictlyIncreasing atoms
     → IsFirstUpto atoms atom place
     → (place < length atoms → get_or atoms place 0 ≡ atom → ⊥) → IsPlaceOf atoms atom (Err place)
@@ -143,26 +139,6 @@ module _ (xs : List Literal) (l : Literal) (place : ℕ) where
           | inr (inr more) ↦ let apart = rises_apart (atoms_of xs) place c.0 rises more
               (omega (arith, c.1)) in absurd (omega (arith, fits.1))
         ]
-
-    -- it is there
-    pub Adds-there : here.positive ≡ l.positive → Adds xs l xs
-    Adds-there sign =
-        let same : here ≡ l = λ i. record { atom = same_atom i; positive = sign i } in
-        record {
-          rises = rises;
-          has = λ a. (
-            λ c. inl c,
-            λ e. elim e [
-              | inl c ↦ c
-              | inr it ↦ (
-                place,
-                stands,
-                get_or_default xs place a here stands
-                    ∙ (is ∙ (same ∙ sym it)),
-              )
-            ],
-          );
-        }
 
     -- the opposite is there exactly where the signs differ
     pub opposite_there : (here.positive ≡ l.positive → ⊥) → Contains xs (opposite l)

@@ -4,3 +4,4 @@ pub mod Named
 pub mod Pieces
 pub mod Placed
 pub mod Short
+pub mod Truths

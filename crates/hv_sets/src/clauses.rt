@@ -11,8 +11,8 @@
 //! a further owner of it, so a formula's clauses occur once, and a store keeps only an index beside
 //! them. Of at most three clauses of at most four literals in all each owner has its own, which
 //! takes no block of memory: the value has the space anyhow, and the blocks of a formula of one
-//! clause would take twice as much. A list that is put to after it was shared becomes one of its own
-//! first, so no owner sees what another does.
+//! clause would take twice as much. A list that is put to after it was shared becomes one of its
+//! own first, so no owner sees what another does.
 
 ghost use Rattle.std.specs.Prelude.{◌≡◌, ◌<◌, [], ◌∷◌, ◌++◌, ◌==◌, length, slice_get, IfOk, Some};
 ghost use Rattle.std.specs.Prelude.{OnOk, OnErr};

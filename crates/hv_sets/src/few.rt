@@ -1,5 +1,5 @@
-//! Few pieces of few items, which lie in the value itself and in no block of memory: a proof can have
-//! hundreds of thousands of lists of one short piece.
+//! Few pieces of few items, which lie in the value itself and in no block of memory: a proof can
+//! have hundreds of thousands of lists of one short piece.
 
 ghost use Rattle.std.specs.Prelude.{◌≡◌, ◌<◌, IfSome, Some, length, slice_get};
 ghost use Rattle.hv_sets.specs.Working.Pieces.{EndWithin, gathered};

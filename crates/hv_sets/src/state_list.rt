@@ -1,15 +1,15 @@
 //! Lists of states.
 //!
 //! Listed states are in one list of atoms, with the end of each: a state of nine atoms takes 40
-//! bytes there, where a list of its own takes 32 and a block of 36 to 80. Where a list is shared, all
-//! its atoms are below 256, and its states hold eight or more as a mean and none more than 64, they
-//! are kept in one byte each: a state of 24 of 48 atoms takes 28 bytes, and not 100. So `get` of a
-//! `StateList` and `Log::state` answer a `KeptState`, from which the atoms are taken as a slice that
-//! rises, and not an `AtomList`, which stays the type in which one state is put together. The
-//! readers put atoms last one by one (`StateListBuilder`, as literals by `ClausesBuilder`), so a
-//! line of two million states takes no memory a state but its atoms and its end. Lists are shared as
-//! those of clauses are: of at most three states of at most eight atoms in all each owner has its
-//! own.
+//! bytes there, where a list of its own takes 32 and a block of 36 to 80. Where a list is shared,
+//! all its atoms are below 256, and its states hold eight or more as a mean and none more than 64,
+//! they are kept in one byte each: a state of 24 of 48 atoms takes 28 bytes, and not 100. So `get`
+//! of a `StateList` and `Log::state` answer a `KeptState`, from which the atoms are taken as a
+//! slice that rises, and not an `AtomList`, which stays the type in which one state is put
+//! together. The readers put atoms last one by one (`StateListBuilder`, as literals by
+//! `ClausesBuilder`), so a line of two million states takes no memory a state but its atoms and its
+//! end. Lists are shared as those of clauses are: of at most three states of at most eight atoms in
+//! all each owner has its own.
 
 ghost use Rattle.std.specs.Prelude.{◌≡◌, ◌<◌, [], ◌∷◌, ◌++◌, ◌==◌, length, slice_get, IfOk, Some};
 ghost use Rattle.std.specs.Prelude.{OnOk, OnErr};
