@@ -17,7 +17,8 @@ use Rattle.hv_sets.specs.Walks.{in_cubes, in_steps}
 use Rattle.hv_paths.specs.Along.{cubes_of}
 use Rattle.hv_paths.proofs.Fronts.{cube_front}
 
-cube_has : (cube : List Literal) (s : List Bool) (l : Literal) → in_cube cube s ≡ true
+-- a literal of a cube is true in its states
+pub cube_has : (cube : List Literal) (s : List Bool) (l : Literal) → in_cube cube s ≡ true
     → Contains cube l → in_literal l s ≡ true
 cube_has [] s l h (k, less, at) = absurd (omega (arith, less))
 cube_has (x ∷ xs) s l h (zero, less, at) =
