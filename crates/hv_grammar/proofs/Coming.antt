@@ -1,33 +1,18 @@
 -- The pieces to come, one line on and at the end.
-use Rattle.std.proofs.Common.{◌≡◌, ℕ, ◌+◌, List, [], ◌∷◌, Option, None, Some, IfSome, length}
-use Rattle.std.proofs.Common.{refl, ap, ◌∙◌, arith, ⊎_elim, length-append}
+use Rattle.std.proofs.Common.{◌≡◌, ℕ, List, [], ◌∷◌, Option, None, Some, IfSome, length}
+use Rattle.std.proofs.Common.{refl, ap, ◌∙◌}
 use Rattle.std.specs.Prelude.{option_map}
 use Rattle.std.specs.Io.KnownBytes.{IsAtEnd}
-use Rattle.hv_bytes.specs.FirstLine.{BeginsLong, FitsLimits, IsFirstLine, MovesBytes, TakesLine}
+use Rattle.hv_bytes.specs.FirstLine.{BeginsLong, FitsLimits, MovesBytes, TakesLine}
 use Rattle.hv_bytes.specs.LineCuts.{lines_of}
 use Rattle.hv_bytes.specs.Pieces.{PieceBytes, pieces_after}
 use Rattle.hv_bytes.specs.declared.cutting.Limits.{Limits}
 use Rattle.hv_bytes.proofs.LineLaws.{lines_of-first}
-use Rattle.hv_bytes.proofs.WholeText.{pieces-line, pieces-long}
+use Rattle.hv_bytes.proofs.WholeText.{pieces-long, pieces_taken}
 
 -- the pieces of the bytes to come
 abbrev pub cut : Limits → ℕ → Option (List ℕ) → Option (List PieceBytes)
 cut limits earlier known = option_map (λ bytes. pieces_after limits earlier (lines_of bytes)) known
-
-pieces_taken : (limits : Limits) (old line new : List ℕ) (before after : ℕ)
-    → IsFirstLine old line new → after + length new ≡ before + length old
-    → FitsLimits limits.line limits.file before (length line)
-    → pieces_after limits before (lines_of old) ≡ Some line
-    ∷ pieces_after limits after (lines_of new)
-pieces_taken limits old line new before after first sums fits =
-    ap (pieces_after limits before) (lines_of-first old line new first)
-    ∙ pieces-line limits before line (lines_of new) fits
-    ∙ ⊎_elim
-    (λ ended. let next : before + (length line + 1)
-    ≡ after = omega (arith, ap length ended, length-append line (10 ∷ new)) in
-    ap (λ n. Some line ∷ pieces_after limits n (lines_of new)) next)
-    (λ last. rw (last.1) refl)
-    first.cut
 
 pub cut_line : (limits : Limits) (old new : Option (List ℕ)) (line : List ℕ) (before after : ℕ)
     → TakesLine old new line → MovesBytes old new before after
