@@ -14,7 +14,6 @@ use Rattle.hv_indexes.specs.Implied.{IsEither}
 use Rattle.hv_indexes.specs.Mates.{IsExact}
 use Rattle.hv_indexes.specs.Places.{clause_at}
 use Rattle.hv_indexes.specs.Working.Mates.{IsDecidedAs}
-use Rattle.hv_indexes.proofs.Mated.{not_both}
 
 -- two signs that are tested to be one
 pub one_sign : (a b : Bool) → beq a b ≡ true → a ≡ b
@@ -44,14 +43,7 @@ either_false first second s (l ∷ ls) one other all =
       | inr e ↦ ap (λ x. in_literal x s) e ∙ other
     ]
 
--- a screen without literals is exact
-pub exact_empty : (clauses : List (List Literal)) (screen : Screen)
-    → ((q : ℕ) → q < length screen.flags → has_atom screen.flags q ≡ not screen.sign)
-    → IsExact clauses screen
-exact_empty clauses screen none on q less is =
-    absurd (not_both screen.sign (has_atom screen.flags q) is (none q less))
-
--- and it stays so with a literal of a clause of two
+-- an exact screen stays so with a literal of a clause of two
 pub exact_more : (clauses : List (List Literal)) (c : ℕ) (own : Literal) (sign was is : Bool)
     (flags : List Bool) (atom : ℕ) → c < length clauses → (is ≡ true → was ≡ true)
     → (is ≡ true → All (IsEither own (record { atom = atom; positive = sign }))

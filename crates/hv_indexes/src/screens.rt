@@ -1,9 +1,9 @@
 //! Literals of one sign, of which each of some clauses has one: a state in which all of them are
 //! true is in each of these clauses.
 //!
-//! They are flags by atom, so a state is compared with them 64 atoms a word. A screen is exact where
-//! each of the clauses has its literal and the own one under which all of them are put, and no
-//! other: then some clause is false where one of the literals is false, and the own one too, and
+//! They are flags by atom, so a state is compared with them 64 atoms a word. A screen is exact
+//! where each of the clauses has its literal and the own one under which all of them are put, and
+//! no other: then some clause is false where one of the literals is false, and the own one too, and
 //! none is tried. Where a screen isn't exact, and one of its literals is false, they are tried.
 
 ghost use Rattle.std.specs.Prelude.{◌≡◌, ◌<◌, ℕ, List, IfOk, IfSome, length, slice_index_or, true};

@@ -1,4 +1,5 @@
-use Rattle.std.proofs.Common.{◌≡◌, ℕ, List, true, false, ◌+◌, ◌<◌, get_or, length, take, arith, subst}
+use Rattle.std.proofs.Common.{◌≡◌, ℕ, List, true, false, ◌+◌, ◌<◌, get_or, length, take, arith}
+use Rattle.std.proofs.Common.{subst}
 use Rattle.std.proofs.lemmas.List.{get_or_default, take_all}
 use Rattle.hv_sets.specs.declared.literal.Literal.{Literal}
 use Rattle.hv_indexes.specs.Working.Signed.{IsSignedCode}
