@@ -11,7 +11,7 @@ use Rattle.std.specs.List.{Contains}
 use Rattle.std.specs.List.Sorted.{IsStrictlyIncreasing}
 use Rattle.hv_task.specs.State.{names_atom}
 use Rattle.hv_task.proofs.Places.{names_atom-Decides}
-use Rattle.hv_task.proofs.Rising.{rises_apart, same_rising}
+use Rattle.hv_task.proofs.Rising.{rises_apart}
 use Rattle.std.specs.declared.hash.DefaultHasher.{DefaultHasher}
 use Rattle.hv_task.specs.Atoms.{IsNext, Lists}
 use Rattle.hv_task.proofs.Listing.{lists_all}
@@ -35,14 +35,6 @@ module _ (test : ℕ → Bool) where
 
   pub from_same : (xs : List ℕ) (a : ℕ) → IsSame test xs → test a ≡ true → Contains xs a
   from_same xs a same e = (names_atom-Decides xs a).0 (sym (same a) ∙ e)
-
-  -- a set has one code
-  pub sip_same : (code : ℕ) (xs : List ℕ) → IsSip test code → IsStrictlyIncreasing xs
-      → IsSame test xs → sip_of xs ≡ code
-  sip_same code xs is rises same =
-      let one : xs ≡ is.0 = same_rising xs is.0 rises is.1
-      (λ a c. (is.2 a).1 (into_same xs a same c)) (λ a c. from_same xs a same ((is.2 a).0 c)) in
-      ap (λ held. sip_of held) one ∙ sym is.3
 
 -- the list goes on with another atom than the set
 pub other_next : (test : ℕ → Bool) (from : ℕ) (xs : List ℕ) (i : ℕ) (next : Option ℕ)

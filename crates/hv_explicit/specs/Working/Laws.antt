@@ -10,23 +10,13 @@ use Rattle.hv_task.proofs.Places.{beq-Decides, has_atom-state_of, length-state_o
 use Rattle.hv_sets.specs.declared.cursor.Cursor.{Cursor}
 use Rattle.hv_sets.specs.Truth.{in_cube, in_literal, in_states, is_same}
 use Rattle.hv_sets.specs.Walks.{IsNew, in_cubes}
+use Rattle.hv_sets.proofs.Truths.{literal_from_same, same_from_literal}
 use Rattle.hv_explicit.specs.ListedStates.{ListedStates, full_cube, full_cubes, in_listing}
 
 -- a new cursor has all cubes before it
 pub starts_with_all : (set : ListedStates) (cursor : Cursor) → IsNew cursor
     → drop cursor.place (full_cubes set) ≡ full_cubes set
 starts_with_all set cursor new = ap (λ k. drop k (full_cubes set)) new.0
-
--- whether a literal of an atom is true tells the flag of the atom
-same_from_literal : (named flag : Bool) → cond named flag (not flag) ≡ true → named ≡ flag
-same_from_literal true flag e = sym e
-same_from_literal false true e = let f : false ≡ true = e in absurd cc
-same_from_literal false false e = refl
-
-literal_from_same : (named flag : Bool) → named ≡ flag → cond named flag (not flag) ≡ true
-literal_from_same true flag e = sym e
-literal_from_same false true e = let f : false ≡ true = e in absurd cc
-literal_from_same false false e = refl
 
 both : (a b : Bool) → (a && b) ≡ true → (a ≡ true) × (b ≡ true)
 both true b e = (refl, e)
