@@ -102,10 +102,12 @@ abbrev pub before_of : List ℕ → Option (Option ℕ)
 before_of field =
     cond (bytes_eq field (codes "-1")) (Some None) (option_map (λ n. Some n) (decimal_of field))
 
+-- whether a value is in a range, as it always is where none is asked for
 abbrev pub is_below : Option ℕ → ℕ → Bool
 is_below None range = true
 is_below (Some n) range = nat_lt n range
 
+-- the effect on a variable from a value to a value, where all three are read and in range
 abbrev pub effect_from : List SasVariable → Option ℕ → Option (Option ℕ) → Option ℕ → Option Effect
 effect_from variables None before after = None
 effect_from variables (Some v) None after = None
@@ -139,6 +141,7 @@ unconditional earlier effect None = Err (R.Place K.Operator)
 unconditional earlier effect (Some n) =
     cond (nat_eq n 0) (unless_twice earlier effect) (Err (R.Unsupported W.Condition))
 
+-- the effect of a line with these fields: the number of its conditions, and what it does
 abbrev pub effect_fields : List SasVariable → List Effect → List (List ℕ) → Result Effect SasRefusal
 effect_fields variables earlier [] = Err (R.Place K.Operator)
 effect_fields variables earlier (c ∷ fields) =

@@ -7,6 +7,7 @@ use Rattle.hv_sas.specs.declared.fault.SasLimit.TheVariants as L
 use Rattle.hv_sas.specs.declared.fault.SasWhich.{SasWhich}
 use Rattle.hv_sas.specs.declared.fault.SasWhich.TheVariants as W
 
+-- the word for the part of a file that is wrong
 abbrev pub sas_kind_word : SasKind → List ℕ
 sas_kind_word K.Version = codes "version"
 sas_kind_word K.Metric = codes "metric"
@@ -21,6 +22,7 @@ sas_kind_word K.Operator = codes "operator"
 sas_kind_word K.Axioms = codes "axioms"
 sas_kind_word K.End = codes "end"
 
+-- the word for what a file has and isn't supported
 abbrev pub which_word : SasWhich → List ℕ
 which_word W.Version = codes "version"
 which_word W.Layer = codes "layer"
@@ -28,6 +30,7 @@ which_word W.Condition = codes "condition"
 which_word W.Twice = codes "twice"
 which_word W.Axiom = codes "axiom"
 
+-- the word for the limit that a file is over
 abbrev pub sas_limit_word : SasLimit → List ℕ
 sas_limit_word L.Values = codes "values"
 sas_limit_word L.Operators = codes "operators"
