@@ -68,8 +68,8 @@ impl Draft {
         Ok(Draft { table, spare: 0 })
     }
 
-    /// Takes the memory for so many further lines. Where the table has no room for that many in all,
-    /// it answers out of memory.
+    /// Takes the memory for so many further lines. Where the table has no room for that many in
+    /// all, it answers out of memory.
     pub fn reserve(&mut self, lines: usize) -> Result<(), AllocError>
         ensures spare { OnOk result (lines ≤ self.new.spare) }
         ensures more { self.old.spare ≤ self.new.spare }
