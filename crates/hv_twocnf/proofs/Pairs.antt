@@ -10,7 +10,7 @@ use Rattle.std.specs.List.{All, Contains}
 use Rattle.std.specs.Prelude.{◌↔◌}
 use Rattle.hv_sets.specs.declared.literal.Literal.{Literal}
 use Rattle.hv_sets.specs.Kinds.{IsTwoClause}
-use Rattle.hv_twocnf.specs.Working.Either.{IsOneOfTwo}
+use Rattle.hv_indexes.specs.Implied.{IsEither}
 
 -- whether the two literals are one
 abbrev pub is_same_literal : Literal → Literal → Bool
@@ -42,8 +42,8 @@ two_of_one clause first all l k m in_l in_k in_m =
     inl cc
 
 -- of three literals that are each one of two, two are the same
-same_two : (first second l k m : Literal) → IsOneOfTwo first second l → IsOneOfTwo first second k
-    → IsOneOfTwo first second m
+same_two : (first second l k m : Literal) → IsEither first second l → IsEither first second k
+    → IsEither first second m
     → (l ≡ k) ⊎ ((k ≡ m) ⊎ (l ≡ m))
 same_two first second l k m (inl a) (inl b) c = inl cc
 same_two first second l k m (inr a) (inr b) c = inl cc
@@ -55,12 +55,12 @@ same_two first second l k m (inr a) (inl b) (inr c) = inr (inr cc)
 -- a clause with two different literals is a clause of two literals where it has no others
 pub two_of_pair : (clause : List Literal) (first second : Literal) → Contains clause first
     → Contains clause second
-    → (second ≡ first → ⊥) → All (IsOneOfTwo first second) clause ↔ IsTwoClause clause
+    → (second ≡ first → ⊥) → All (IsEither first second) clause ↔ IsTwoClause clause
 two_of_pair clause first second in_first in_second differ = (
   λ all l k m in_l in_k in_m.
-      same_two first second l k m (All-contains (IsOneOfTwo first second) clause l all in_l)
-      (All-contains (IsOneOfTwo first second) clause k all in_k)
-      (All-contains (IsOneOfTwo first second) clause m all in_m),
+      same_two first second l k m (All-contains (IsEither first second) clause l all in_l)
+      (All-contains (IsEither first second) clause k all in_k)
+      (All-contains (IsEither first second) clause m all in_m),
   λ two k d within.
       elim (two first second (get_or clause k d) in_first in_second
       (Contains-get_or clause k d within)) [
@@ -78,10 +78,10 @@ two_of_few (a ∷ []) few =
     two_of_one (a ∷ []) a
     (All-cons (λ (l : Literal). l ≡ a) a [] refl (All-nil (λ (l : Literal). l ≡ a)))
 two_of_few (a ∷ b ∷ []) few = λ l k m in_l in_k in_m.
-    let either : All (IsOneOfTwo a b) (a ∷ b ∷ []) =
-    All-cons (IsOneOfTwo a b) a (b ∷ []) (inl refl)
-    (All-cons (IsOneOfTwo a b) b [] (inr refl) (All-nil (IsOneOfTwo a b))) in
-    same_two a b l k m (All-contains (IsOneOfTwo a b) (a ∷ b ∷ []) l either in_l)
-    (All-contains (IsOneOfTwo a b) (a ∷ b ∷ []) k either in_k)
-    (All-contains (IsOneOfTwo a b) (a ∷ b ∷ []) m either in_m)
+    let either : All (IsEither a b) (a ∷ b ∷ []) =
+    All-cons (IsEither a b) a (b ∷ []) (inl refl)
+    (All-cons (IsEither a b) b [] (inr refl) (All-nil (IsEither a b))) in
+    same_two a b l k m (All-contains (IsEither a b) (a ∷ b ∷ []) l either in_l)
+    (All-contains (IsEither a b) (a ∷ b ∷ []) k either in_k)
+    (All-contains (IsEither a b) (a ∷ b ∷ []) m either in_m)
 two_of_few (a ∷ b ∷ c ∷ rest) few = absurd (omega (arith, few))

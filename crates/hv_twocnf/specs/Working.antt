@@ -1,3 +1,2 @@
 -- Definitions that no public contract cites: those of private contracts and of proofs.
-pub mod Either
 pub mod Laws

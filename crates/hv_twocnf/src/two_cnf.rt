@@ -9,7 +9,7 @@ ghost use Rattle.std.specs.List.{All};
 ghost use Rattle.hv_sets.specs.Kinds.{IsTwoClause};
 ghost use Rattle.hv_propagation.specs.declared.completion.Completion.TheVariants as C;
 ghost use Rattle.hv_formula.specs.declared.kept_lists.KeptLists.TheVariants as L;
-ghost use Rattle.hv_twocnf.specs.Working.Either.{IsOneOfTwo};
+ghost use Rattle.hv_indexes.specs.Implied.{IsEither};
 ghost use Rattle.hv_twocnf.specs.Fault.{IsTwoCnfFault, memory_is_fault};
 ghost use Rattle.hv_twocnf.specs.Working.Laws as laws;
 ghost use Rattle.hv_twocnf.specs.declared.two_cnf.TwoCnfFault.TheVariants as F;
@@ -120,7 +120,7 @@ fn is_two(clause: &[Literal]) -> bool
 
 // Whether each literal of a clause is one of these two.
 fn has_only(clause: &[Literal], first: &Literal, second: &Literal) -> bool
-    ensures { IsTrue result ↔ All (IsOneOfTwo first.now second.now) clause.now }
+    ensures { IsTrue result ↔ All (IsEither first.now second.now) clause.now }
 {
     clause
         .iter()
