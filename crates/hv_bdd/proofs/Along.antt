@@ -1,5 +1,5 @@
 -- Fronts after each of some literals.
-use Rattle.std.proofs.Common.{◌≡◌, ℕ, ◌<◌, ◌≤◌, ◌+◌, ◌∙◌, ◌++◌, ◌&&◌, Bool, true, false}
+use Rattle.std.proofs.Common.{◌≡◌, ℕ, ◌<◌, ◌≤◌, ◌+◌, ◌∙◌, ◌++◌, Bool, true}
 use Rattle.std.proofs.Common.{List, [], ◌∷◌, length, get_or, take, refl, sym, ap, arith, inl}
 use Rattle.std.proofs.Common.{inr, subst, suc}
 use Rattle.std.proofs.Math.Seq.{take-suc}
@@ -9,26 +9,13 @@ use Rattle.std.specs.Global.{Vec}
 use Rattle.hv_sets.specs.declared.literal.Literal.{Literal}
 use Rattle.hv_sets.specs.Cubes.{SpeakBelow}
 use Rattle.hv_sets.specs.Truth.{in_cube, in_literal}
+use Rattle.hv_sets.proofs.Truths.{in_push}
 use Rattle.hv_paths.specs.Along.{IsBarren}
 use Rattle.hv_bdd.specs.Nodes.{IsNode, NodeList, in_node}
 use Rattle.hv_bdd.specs.declared.level.Level.{Level}
 use Rattle.hv_bdd.specs.Exclusions.{AreExclusions}
 use Rattle.hv_bdd.specs.Fronts.{AreBelowBound, AreFronts, HoldCube, IsLevel, StandsAlong}
 use Rattle.hv_bdd.specs.Working.Fronts.{GoesDeeper, IsMetNowhere, IsNextLevel, MovesTo, Turns}
-
-pub in_push : (ls : List Literal) (l : Literal) (s : List Bool)
-    → in_cube (ls ++ l ∷ []) s ≡ (in_cube ls s && in_literal l s)
-in_push [] l s = by (in_literal l s)
-  where
-    by : (b : Bool) → (b && true) ≡ b
-    by true = refl
-    by false = refl
-in_push (x ∷ xs) l s = ap (λ b. in_literal x s && b) (in_push xs l s)
-    ∙ assoc (in_literal x s) (in_cube xs s) (in_literal l s)
-  where
-    assoc : (a b c : Bool) → (a && (b && c)) ≡ ((a && b) && c)
-    assoc true b c = refl
-    assoc false b c = refl
 
 none_below : (bound : ℕ) → AreBelowBound bound []
 none_below bound k less = absurd (omega (arith, less))
@@ -46,13 +33,7 @@ module _ (list : NodeList) (inside : Bool) (node : ℕ) where
       let parts = and_parts (in_cube cube s) (in_literal l s) (sym (in_push cube l s) ∙ in_it) in
       let w = front s (parts.0) is in turns s (w.0) (parts.1) (w.1) (w.2)
 
-  -- no node is met
-  pub none_met : (cube : List Literal) (front : List ℕ) → length front ≡ 0
-      → HoldCube list inside node cube front → IsMetNowhere list inside node cube
-  none_met cube front none holds s h is =
-      let w = holds s h is in absurd (omega (arith, none, (w.1).1))
-
-  -- so no state that is looked for is in the cube
+  -- where the cube meets no node, no state that is looked for is in it
   pub none_wanted : (atoms : ℕ) (wanted : List Bool → Bool) (cube : List Literal)
       → ((s : List Bool) → wanted s ≡ true → in_node list node s ≡ inside)
       → IsMetNowhere list inside node cube → IsBarren atoms wanted cube

@@ -1,7 +1,7 @@
 -- Rows of nodes for the literals of a batch, and what they tell of two literals.
 use Rattle.std.proofs.Common.{◌≡◌, ◌≢◌, ℕ, ◌<◌, ◌≤◌, ◌+◌, ◌*◌, ◌/◌, ◌%◌, ◌∙◌, ◌++◌, ◌∷◌, Bool}
 use Rattle.std.proofs.Common.{true, false, List, [], bit_or, cond, get_or, inl, inr, length, not}
-use Rattle.std.proofs.Common.{refl, sym, ap, arith, subst, set, replicate, zero, suc}
+use Rattle.std.proofs.Common.{refl, sym, ap, arith, subst, set, replicate}
 use Rattle.std.proofs.Math.ListN.{get_or-append}
 use Rattle.std.proofs.lemmas.Bool.{and_parts, cases_Bool, cases_eq, cases_lt}
 use Rattle.std.proofs.lemmas.Grind.{get_or-set_at}
@@ -10,10 +10,11 @@ use Rattle.std.proofs.lemmas.List.{length_push, length-replicate, length-set}
 use Rattle.std.proofs.lemmas.Nat.Bits.{bit_at-lt, bit_at_ones, bit_at_or}
 use Rattle.std.specs.Global.{Vec}
 use Rattle.std.specs.Int.{bit_at}
-use Rattle.std.specs.List.{Contains}
 use Rattle.hv_task.specs.State.{has_atom}
 use Rattle.hv_sets.specs.declared.literal.Literal.{Literal}
 use Rattle.hv_sets.specs.Truth.{in_cube, in_literal}
+use Rattle.hv_sets.proofs.Truths.{in_push}
+use Rattle.hv_paths.proofs.Filled.{cube_has}
 use Rattle.hv_bdd.specs.declared.node_exclusions.Landing.{Landing}
 use Rattle.hv_bdd.specs.declared.level.Level.{Level}
 use Rattle.hv_bdd.specs.declared.node.Node.{Node}
@@ -26,7 +27,6 @@ use Rattle.hv_bdd.specs.Working.Excluding.{IsLanding, IsMask}
 use Rattle.hv_bdd.specs.Working.Fronts.{IsMetNowhere}
 use Rattle.hv_bdd.specs.Working.Walking.{child_less, in_inner}
 use Rattle.hv_bdd.proofs.Advanced.{not_bad}
-use Rattle.hv_bdd.proofs.Along.{in_push}
 
 sign_few : (b : Bool) → cond b 1 0 < 2
 sign_few true = omega arith
@@ -279,15 +279,6 @@ joined_more masks nodes word place before k i less has =
           or_right word (get_or masks (get_or nodes place 0) 0) i
           (ap (λ j. bit_at (get_or masks (get_or nodes j 0) 0) i) e ∙ has)
     ]
-
--- a literal of a cube is true in its states
-cube_has : (cube : List Literal) (s : List Bool) (l : Literal) → in_cube cube s ≡ true
-    → Contains cube l → in_literal l s ≡ true
-cube_has [] s l h (k, less, at) = absurd (omega (arith, less))
-cube_has (x ∷ xs) s l h (zero, less, at) =
-    ap (λ y. in_literal y s) (sym at) ∙ (and_parts (in_literal x s) (in_cube xs s) h).0
-cube_has (x ∷ xs) s l h (suc k, less, at) =
-    cube_has xs s l (and_parts (in_literal x s) (in_cube xs s) h).1 (k, omega (arith, less), at)
 
 -- two literals of which one excludes the other have no state
 module _ (list : NodeList) (inside : Bool) (node : ℕ) (table : List (Vec ℕ))

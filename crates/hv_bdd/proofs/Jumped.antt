@@ -225,12 +225,6 @@ module _ (list : NodeList) where
       sym (holds.names (get_or places i 0) under)
       ∙ (names_atom-Decides places (get_or places i 0)).1 (Contains-get_or places i 0 within)
 
--- no jumps
-pub no_jumps : (list : NodeList) (jumps : List ℕ) → jumps ≡ [] → AreJumps list jumps
-no_jumps list jumps none =
-    let size = ap length none in
-    record { few = omega arith; each = λ i less. absurd (omega arith) }
-
 -- the same question about the node, with other jumps
 pub at_node_same : (list : NodeList) (inside : Bool) (wanted new : List Bool → Bool)
     (node : ℕ) (old jumps : List ℕ) → ((s : List Bool) → new s ≡ wanted s)
@@ -241,13 +235,6 @@ at_node_same list inside wanted new node old jumps same at are = record {
   side = λ s want. at.side s (sym (same s) ∙ want);
   known = are;
 }
-
--- a state on the other side of the node isn't looked for
-pub unwanted : (list : NodeList) (inside : Bool) (wanted : List Bool → Bool) (node : ℕ)
-    (jumps : List ℕ) → StandsAtNode list inside wanted node jumps → (s : List Bool) (has : Bool)
-    → has ≡ in_node list node s → (has ≡ inside → ⊥) → false ≡ wanted s
-unwanted list inside wanted node jumps at s has is other =
-    sym (false_from_ne_true (wanted s) (λ want. other (is ∙ at.side s want)))
 
 -- The places of the atoms that are listed, sorted.
 module _ (list : NodeList) (is : IsOrder list) (held places sorted : List ℕ)

@@ -1,9 +1,9 @@
 -- Tuples whose nodes move one after the other.
-use Rattle.std.proofs.Common.{◌≡◌, ℕ, ◌<◌, ◌+◌, ◌++◌, ◌∷◌, ◌∙◌, Bool, true, false, not, List, []}
-use Rattle.std.proofs.Common.{ap, ap₂, arith, cond, drop, eqb, get_or, length, refl, set, sym, take}
-use Rattle.std.proofs.lemmas.Bool.{and_parts, cond-false, ne_eqb}
+use Rattle.std.proofs.Common.{◌≡◌, ℕ, ◌<◌, ◌+◌, ◌++◌, ◌∷◌, ◌∙◌, Bool, false, List, []}
+use Rattle.std.proofs.Common.{ap, ap₂, arith, cond, drop, eqb, get_or, length, set, sym, take}
+use Rattle.std.proofs.lemmas.Bool.{cond-false, ne_eqb}
 use Rattle.std.proofs.lemmas.List.{append_assoc, drop-set-lt, drop_more, take_more_set}
-use Rattle.hv_bdd.specs.Tuples.{Moves, is_live, move_all, move_one}
+use Rattle.hv_bdd.specs.Tuples.{Moves, move_all, move_one}
 
 -- one node more has moved, into a row of its own
 pub moved_into : {O : Type 0} (m : Moves O) (v : ℕ) (b : Bool) (os : List O) (nodes row : List ℕ)
@@ -40,19 +40,3 @@ stays_put m v b o i other alive =
     ap (λ n. eqb n (cond (m.wants o) 0 1))
     (cond-false (eqb (m.top o i) v) (m.child o i (m.seen o v b)) i (ne_eqb (m.top o i) v other))
     ∙ alive
-
--- what a live tuple says of one of its nodes, and of those behind it
-pub live_more : {O : Type 0} (m : Moves O) (os : List O) (nodes : List ℕ) (k : ℕ) (o : O)
-    → k < length nodes → length nodes ≡ length os
-    → is_live m (drop k os) (drop k nodes) ≡ true
-    → (eqb (get_or nodes k 0) (cond (m.wants (get_or os k o)) 0 1) ≡ false)
-    × (is_live m (drop (k + 1) os) (drop (k + 1) nodes) ≡ true)
-live_more m os nodes k o less size alive =
-    let parts = and_parts (not (eqb (get_or nodes k 0) (cond (m.wants (get_or os k o)) 0 1)))
-    (is_live m (drop (k + 1) os) (drop (k + 1) nodes))
-    (sym (ap₂ (is_live m) (drop_more os k o (omega arith)) (drop_more nodes k 0 less)) ∙ alive) in
-    (by (eqb (get_or nodes k 0) (cond (m.wants (get_or os k o)) 0 1)) parts.0, parts.1)
-  where
-    by : (x : Bool) → not x ≡ true → x ≡ false
-    by true e = let f : false ≡ true = e in absurd cc
-    by false e = refl

@@ -12,13 +12,13 @@ use Rattle.std.proofs.lemmas.List.Elements.{All-nil, All-cons, All-head, All-tai
 use Rattle.std.proofs.lemmas.List.Splits.{join_with_byte-slice_split, slice_split_at}
 use Rattle.std.proofs.lemmas.List.Splits.{slice_split_none}
 use Rattle.hv_bytes.specs.Fields.{cut_fields}
+use Rattle.hv_bytes.specs.Working.Fields.{fields_behind}
 use Rattle.hv_bytes.proofs.DecimalTexts.{no_space}
 use Rattle.hv_grammar.specs.Forms.{decimal_of}
 use Rattle.hv_grammar.proofs.Numerals.{behind_append, decimal_of_is, is_decimal_of}
 use Rattle.hv_bdd.specs.Order.{IsOrder}
 use Rattle.hv_bdd.specs.OrderLine.{begins_with, if_order, is_order, named_atom, named_atoms}
 use Rattle.hv_bdd.specs.OrderLine.{order_line, order_of_fields}
-use Rattle.hv_bdd.specs.Working.Inverse.{fields_left}
 use Rattle.hv_bdd.specs.Working.NodeText.{list_over}
 use Rattle.hv_bdd.specs.Working.Noting.{named_behind}
 use Rattle.hv_bdd.proofs.Parted.{BeginsWithNone, no_decimal, spelled}
@@ -151,7 +151,7 @@ behind_more order new count atom fields later size front first =
 pub left_is : {A : Type 0} (line : List ℕ) (n : ℕ) (behind : Option A) (now : A → List ℕ)
     → MatchOption behind (cut_fields line ≡ decimal n ∷ [])
     (λ rest. cut_fields line ≡ decimal n ∷ cut_fields (now rest))
-    → cut_fields line ≡ decimal n ∷ fields_left behind now
+    → cut_fields line ≡ decimal n ∷ fields_behind behind now
 left_is line n None now is = is
 left_is line n (Some rest) now is = is
 

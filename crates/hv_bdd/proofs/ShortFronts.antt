@@ -4,13 +4,11 @@ use Rattle.std.proofs.Common.{ap, drop, get_or, get_or-take, inl, inr, length-ta
 use Rattle.std.proofs.Common.{decimal, refl, set, subst, sym}
 use Rattle.std.proofs.lemmas.Bool.{cases_eq}
 use Rattle.std.proofs.lemmas.List.{get_or-set_other, get_or-set_same}
-use Rattle.std.specs.Str.Parse.{AllDigits, digits_value}
-use Rattle.std.proofs.lemmas.Int.Digits.{digits_more, digits_value_more}
-use Rattle.std.proofs.lemmas.Str.{digit_value_digit}
 use Rattle.hv_bytes.specs.Fields.{cut_fields}
 use Rattle.hv_bytes.specs.Working.Decimals.{HasDecimalShape}
 use Rattle.hv_bytes.specs.Working.Fronts.{IsDigitFront}
 use Rattle.hv_bytes.proofs.DecimalFronts.{front_decimal, front_space}
+use Rattle.hv_bytes.proofs.ShortFronts.{more_digit}
 use Rattle.hv_bdd.specs.Working.Digits.{AreDigits, SpellsNumber}
 
 -- before the first one
@@ -22,18 +20,6 @@ spelled_none bytes plain = record {
 }
 
 -- a digit more
-more_digit : (bytes : List ℕ) (count number digit : ℕ) → count < length bytes
-    → AllDigits 10 (take count bytes) → number ≡ digits_value 10 (take count bytes) → digit ≤ 9
-    → digit + 48 ≡ get_or bytes count 0
-    → AllDigits 10 (take (count + 1) bytes)
-    × (number * 10 + digit ≡ digits_value 10 (take (count + 1) bytes))
-more_digit bytes count number digit within digits value few is =
-    let spelled = digit_value_digit (get_or bytes count 0) (omega arith, omega arith) in
-    let more = digits_value_more 10 bytes count within in (
-      digits_more 10 bytes count within digits (omega (arith, spelled)),
-      omega (arith, more, spelled, value),
-    )
-
 spelled_more : (bytes : List ℕ) (count number digit : ℕ) → count < length bytes
     → SpellsNumber bytes count number → digit ≤ 9 → digit + 48 ≡ get_or bytes count 0
     → SpellsNumber bytes (count + 1) (number * 10 + digit)

@@ -1,14 +1,14 @@
 -- The sweep through live tuples: what one more tuple changes, what one more place does, and what is
 -- known at the end.
-use Rattle.std.proofs.Common.{◌≡◌, ℕ, zero, suc, ◌<◌, ◌≤◌, ◌+◌, ◌∙◌, ◌⊎◌, Bool, true, false, List, []}
-use Rattle.std.proofs.Common.{◌∷◌, ◌++◌, Option, None, Some, cond, eqb, length, get_or, map, take, refl}
-use Rattle.std.proofs.Common.{sym, ap, arith, inl, inr, subst}
+use Rattle.std.proofs.Common.{◌≡◌, ℕ, zero, suc, ◌<◌, ◌≤◌, ◌+◌, ◌∙◌, ◌⊎◌, Bool, true, false, List}
+use Rattle.std.proofs.Common.{[], ◌∷◌, ◌++◌, Option, None, Some, cond, eqb, length, get_or, map}
+use Rattle.std.proofs.Common.{take, refl, sym, ap, arith, inl, inr, subst}
 use Rattle.std.proofs.lemmas.Bool.{cases_eq, cond-true, eq-eqb}
 use Rattle.std.proofs.lemmas.Bool.Decides.{Decides-eqb}
 use Rattle.std.proofs.lemmas.List.{get_or-take, get_or_default, length-append, length-take-le}
 use Rattle.std.proofs.lemmas.List.{map_push, take_more}
 use Rattle.std.proofs.lemmas.List.Elements.{All-append, All-contains, All-contains_itself}
-use Rattle.std.proofs.lemmas.List.Elements.{All-filter, All-nil, All-push, All-take, All-weaker}
+use Rattle.std.proofs.lemmas.List.Elements.{All-filter, All-push, All-take, All-weaker}
 use Rattle.std.proofs.lemmas.List.Elements.{Contains-append_cases, Contains-append_left}
 use Rattle.std.proofs.lemmas.List.Elements.{Contains-append_right, Contains-push}
 use Rattle.std.proofs.lemmas.List.Elements.{Contains-push_cases, filter_passes}
@@ -172,17 +172,6 @@ module _ {O : Type 0} (m : Moves O) (os : List O) (root : List ℕ) where
 
   abbrev at : List ℕ → ℕ
   at t = least m os t
-
-  pub place_begun : (v : ℕ) (later : List (List ℕ)) → later ≡ []
-      → IsSweptPlace m os root v [] later
-  place_begun v later none =
-      subst (IsSweptPlace m os root v []) (sym none) (record {
-        reached = All-nil Reached;
-        differ = tt;
-        after = All-nil (λ t. v < at t);
-        moved = λ t u b c. let less = c.1 in absurd (omega arith);
-        kept = λ t c. let less = c.1 in absurd (omega arith);
-      })
 
   module _ (v : ℕ) (ts later : List (List ℕ)) (t : List ℕ)
       (swept : IsSweptPlace m os root v ts later) (reached : Reached t) where

@@ -4,13 +4,14 @@ ghost use Rattle.std.specs.Prelude.{◌≡◌, ◌≢◌, ◌+◌, ◌<◌, ◌�
 ghost use Rattle.std.specs.Prelude.{true, false, decimal, IfNone, IfOk, IfSome, length, take};
 ghost use Rattle.std.specs.Prelude.{option_and_then, option_map, slice_index, slice_index_or};
 ghost use Rattle.hv_bytes.specs.Fields.{cut_fields};
+ghost use Rattle.hv_bytes.specs.Working.Fields.{fields_behind};
 ghost use Rattle.hv_task.specs.Atoms.{IsNext};
 ghost use Rattle.hv_task.specs.State.{has_atom};
 ghost use Rattle.hv_bdd.specs.Order.{position};
 ghost use Rattle.hv_bdd.specs.OrderLine.{if_order, named_atoms};
 ghost use Rattle.hv_bdd.specs.OrderLine.{order_of_fields};
 ghost use Rattle.hv_bdd.specs.Working.Digits.{AreDigits};
-ghost use Rattle.hv_bdd.specs.Working.Inverse.{AreInverse, fields_left};
+ghost use Rattle.hv_bdd.specs.Working.Inverse.{AreInverse};
 ghost use Rattle.hv_bdd.specs.Working.Noting.{AreNoted, named_behind};
 
 use crate::atom_bits::ListedState;
@@ -160,10 +161,10 @@ fn note_quickly<'a>(
 fn atom_front(line: &[u8], atoms: u32) -> Option<(u32, Option<&[u8]>)>
     ensures none { IfNone result (named_atoms atoms (cut_fields line.now) ≡ None) }
     ensures some { IfSome result (λ p. named_atoms atoms (cut_fields line.now)
-        ≡ option_map (λ ns. p.0 ∷ ns) (named_atoms atoms (fields_left p.1 (λ f. f.now)))) }
+        ≡ option_map (λ ns. p.0 ∷ ns) (named_atoms atoms (fields_behind p.1 (λ f. f.now)))) }
     ensures below { IfSome result (λ p. p.0 < atoms) }
     ensures fewer { IfSome result (λ p.
-        length (fields_left p.1 (λ f. f.now)) < length (cut_fields line.now)) }
+        length (fields_behind p.1 (λ f. f.now)) < length (cut_fields line.now)) }
 {
     let (number, behind) = decimal_front(line)?;
     if number >= u64::from(atoms) {
@@ -179,9 +180,9 @@ fn note_atoms(fields: Option<&[u8]>, order: &mut [u32], places: &mut [u32]) -> b
     requires few { length order.old < 2 ^ 32 }
     ensures noted { result ≡ true → AreNoted order.new places.new (length order.new) }
     ensures named { result ≡ true → Some order.new
-        ≡ named_atoms (length order.old) (fields_left fields.entry (λ f. f.now)) }
+        ≡ named_atoms (length order.old) (fields_behind fields.entry (λ f. f.now)) }
     ensures none { result ≡ false → None ≡ option_and_then (if_order (length order.old))
-        (named_atoms (length order.old) (fields_left fields.entry (λ f. f.now))) }
+        (named_atoms (length order.old) (fields_behind fields.entry (λ f. f.now))) }
     ensures size { length order.new ≡ length order.old }
 {
     let digits = digit_table();

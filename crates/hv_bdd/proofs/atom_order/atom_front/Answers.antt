@@ -1,8 +1,8 @@
 use Rattle.std.proofs.Common.{◌≡◌, ◌∙◌, ap, arith, None, subst, sym}
 use Rattle.std.specs.Prelude.{IfNone}
 use Rattle.hv_bytes.specs.Fields.{cut_fields}
+use Rattle.hv_bytes.specs.Working.Fields.{fields_behind}
 use Rattle.hv_bdd.specs.OrderLine.{named_atoms}
-use Rattle.hv_bdd.specs.Working.Inverse.{fields_left}
 use Rattle.hv_bdd.proofs.Parted.{fields_some}
 use Rattle.hv_bdd.proofs.Ranked.{first_is, left_is, none_named, too_great}
 use Rattle.hv_bdd.proofs.atom_order.atom_front.Goals as goal
@@ -22,7 +22,7 @@ returns-then-number-from-clause-none c =
     let great = c.if-number-from.true in
     ap (named_atoms atoms)
     (left_is c.args.line.now number behind (λ f. f.now) c.in_ok-number.ensures.fields)
-    ∙ too_great atoms number (fields_left behind (λ f. f.now)) c.in_ok-number.ensures.number
+    ∙ too_great atoms number (fields_behind behind (λ f. f.now)) c.in_ok-number.ensures.number
     (let same = c.from.ensures in omega arith)
 
 pub returns-clause-some : goal.returns-clause-some
@@ -33,5 +33,5 @@ returns-clause-some c =
     let less = c.if-number-from.false in
     ap (named_atoms atoms)
     (left_is c.args.line.now number behind (λ f. f.now) c.in_ok-number.ensures.fields)
-    ∙ first_is atoms number (fields_left behind (λ f. f.now)) c.in_ok-number.ensures.number
+    ∙ first_is atoms number (fields_behind behind (λ f. f.now)) c.in_ok-number.ensures.number
     (let same = c.from.ensures in omega arith)
