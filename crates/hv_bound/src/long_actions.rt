@@ -54,7 +54,8 @@ impl LongActions {
         requires state { IsState task.now state.old }
         requires kept { AreKeptWords task.now self.old }
         ensures kept { OnOk result (AreKeptWords task.now self.new) }
-        ensures step { IfOk result (λ taken. IsStepTaken task.now number state.old state.new taken) }
+        ensures step { IfOk result
+            (λ taken. IsStepTaken task.now number state.old state.new taken) }
         ensures state { IsState task.now state.new }
     {
         let action = task.action(number);
