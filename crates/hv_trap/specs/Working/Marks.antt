@@ -13,7 +13,8 @@ AreMarks stays clauses left =
 
 -- there is a mark for each clause, and those that are left deny some conjunctions, of which those
 -- of the greatest trap are some
-pub record AreMarkedLeft (task : Strips) (clauses : List (List Literal)) (left : List Bool) : Type 0 where
+pub record AreMarkedLeft (task : Strips) (clauses : List (List Literal)) (left : List Bool)
+    : Type 0 where
   pub stays : List Literal → Bool
   pub count : length left ≡ length clauses
   pub marks : AreMarks stays clauses left
