@@ -1,11 +1,9 @@
 -- Lines with lists, and those without: what is found behind a head.
 use Rattle.std.proofs.Common.{◌≡◌, ℕ, ◌∙◌, List, Option, Some, None, MatchOption, length, refl, sym}
-use Rattle.std.proofs.Common.{◌≢◌, ◌≤◌, arith, ap, subst}
+use Rattle.std.proofs.Common.{subst}
 use Rattle.hv_sets.specs.declared.literal.Literal.{Literal}
-use Rattle.hv_lines.specs.declared.line.Acts.{Acts}
-use Rattle.hv_lines.specs.declared.line.Expr.{Expr}
 use Rattle.hv_lines.specs.declared.line.Line.{Line}
-use Rattle.hv_proof_text.specs.Working.Forms.{ActsForm, ExprForm, LineForm}
+use Rattle.hv_proof_text.specs.Working.Forms.{LineForm}
 use Rattle.hv_proof_text.specs.Working.Gathering.{BeginsWithCount, StandFor}
 use Rattle.hv_proof_text.specs.Working.Heads.{listed_by, listed_kind, listed_letter}
 use Rattle.hv_proof_text.specs.Working.Tokens.{AreClauseTokens, AreRisingNumbers, AreStateTokens}
@@ -87,43 +85,3 @@ plain_behind tokens shown fields letter id kind (Some line) e are form =
 plain_behind tokens shown fields letter id kind None e are never = λ line stand.
     let same = same_tokens stand.0 tokens stand.1.each are.each (stand.1.same ∙ sym are.same) in
     never line (subst (λ ts. LineForm letter id kind ts line) (same ∙ sym e) stand.2)
-
--- a line without a list has two tokens at most behind its head
-
-few_acts : (kind : Letter) (tokens : List Token) (acts : Acts) → ActsForm kind tokens acts
-    → listed_by L.A kind ≡ None → length tokens ≤ 2
-few_acts L.A tokens acts form plain = omega (arith, ap length form.0)
-few_acts L.B tokens acts form plain = absurd (cc)
-few_acts L.U tokens acts form plain = omega (arith, ap length form.2)
-few_acts _ tokens acts form plain = absurd form
-
-few_of_expr : (kind : Letter) (tokens : List Token) (expr : Expr) → ExprForm kind tokens expr
-    → listed_by L.E kind ≡ None → length tokens ≤ 2
-few_of_expr L.C tokens expr form plain = omega (arith, ap length form.1)
-few_of_expr L.H tokens expr form plain = absurd (cc)
-few_of_expr L.D tokens expr form plain = absurd (cc)
-few_of_expr L.T tokens expr form plain = absurd (cc)
-few_of_expr L.X tokens expr form plain = absurd (cc)
-few_of_expr L.B tokens expr form plain = omega (arith, ap length form.1)
-few_of_expr L.N tokens expr form plain = omega (arith, ap length form.1)
-few_of_expr L.I tokens expr form plain = omega (arith, ap length form.2)
-few_of_expr L.U tokens expr form plain = omega (arith, ap length form.2)
-few_of_expr L.P tokens expr form plain = omega (arith, ap length form.2)
-few_of_expr L.R tokens expr form plain = omega (arith, ap length form.2)
-few_of_expr _ tokens expr form plain = absurd form
-
-few_behind : (letter : Letter) (id : ℕ) (kind : Letter) (tokens : List Token) (line : Line)
-    → LineForm letter id kind tokens line → listed_by letter kind ≡ None → letter ≢ L.K
-    → length tokens ≤ 2
-few_behind L.A id kind tokens line form plain other = few_acts kind tokens form.0 form.1 plain
-few_behind L.E id kind tokens line form plain other = few_of_expr kind tokens form.0 form.1 plain
-few_behind L.K id kind tokens line form plain other = absurd (other refl)
-few_behind _ id kind tokens line form plain other = absurd form
-
--- where no two tokens are behind the head, nothing is found for the fields
-pub plain_never : (fields : List (List ℕ)) (letter : Letter) (id : ℕ) (kind : Letter)
-    → listed_by letter kind ≡ None → letter ≢ L.K
-    → ((tokens : List Token) → length tokens ≤ 2 → AreTokens tokens fields → ⊥)
-    → (line : Line) → StandFor (λ ts. LineForm letter id kind ts line) fields → ⊥
-plain_never fields letter id kind plain other never line stand =
-    never stand.0 (few_behind letter id kind stand.0 line stand.2 plain other) stand.1

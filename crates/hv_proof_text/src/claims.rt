@@ -3,11 +3,12 @@
 
 ghost use Rattle.std.specs.Prelude.{◌≡◌, ◌<◌, ◌≤◌, ◌^◌, ℕ, List, [], ◌∷◌, MatchOption, decimal};
 ghost use Rattle.std.specs.Prelude.{length, map};
+ghost use Rattle.hv_bytes.specs.Working.Fields.{fields_behind};
 ghost use Rattle.hv_lines.specs.declared.line.Line.{Line};
 ghost use Rattle.hv_lines.specs.declared.line.Statement.{Statement};
 ghost use Rattle.hv_lines.specs.declared.line.Word.{Word};
 ghost use Rattle.hv_proof_text.specs.Working.Forms.{ClaimForm, LineForm, ReadsClaim, SupportForm};
-ghost use Rattle.hv_proof_text.specs.Working.Gathering.{StandFor, fields_behind};
+ghost use Rattle.hv_proof_text.specs.Working.Gathering.{StandFor};
 ghost use Rattle.hv_proof_text.specs.Working.Tokens.{AreTokens, number};
 ghost use Rattle.hv_proof_text.specs.declared.token.Letter.{Letter};
 ghost use Rattle.hv_proof_text.specs.declared.token.Token.{Token};

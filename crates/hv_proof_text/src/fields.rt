@@ -6,9 +6,9 @@
 ghost use Rattle.std.specs.Prelude.{◌≡◌, ◌<◌, ◌≤◌, ◌^◌, ℕ, ◌∷◌, true, false, decimal, length, List};
 ghost use Rattle.std.specs.Prelude.{MatchOption, Ok, [], codes};
 ghost use Rattle.hv_bytes.specs.Fields.{cut_fields};
+ghost use Rattle.hv_bytes.specs.Working.Fields.{fields_behind};
 ghost use Rattle.hv_lines.specs.Spelling.{word_field};
 ghost use Rattle.hv_lines.specs.declared.line.Word.{Word};
-ghost use Rattle.hv_proof_text.specs.Working.Gathering.{fields_behind};
 ghost use Rattle.hv_proof_text.specs.Working.Tokens.{AreTokens, IsNameToken, IsToken, field_of};
 ghost use Rattle.hv_proof_text.specs.Working.Tokens.{letter, letter_field, number};
 ghost use Rattle.hv_proof_text.specs.declared.token.Letter.{Letter};

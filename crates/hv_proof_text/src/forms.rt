@@ -1,13 +1,14 @@
 //! Lines from tokens: what may be behind each letter.
 
 ghost use Rattle.std.specs.Prelude.{◌≡◌, ◌≢◌, ℕ, List, ◌∷◌, None, MatchOption, IfOk, length};
+ghost use Rattle.hv_bytes.specs.Working.Fields.{fields_behind};
 ghost use Rattle.hv_lines.specs.Spelling.{Spells};
 ghost use Rattle.hv_lines.specs.declared.line.Acts.{Acts};
 ghost use Rattle.hv_lines.specs.declared.line.Expr.{Expr};
 ghost use Rattle.hv_lines.specs.declared.line.Line.{Line};
 ghost use Rattle.hv_proof_text.specs.Working.Forms.{ActsForm, ExprForm, LineForm};
 ghost use Rattle.hv_sets.specs.declared.literal.Literal.{Literal};
-ghost use Rattle.hv_proof_text.specs.Working.Gathering.{BeginsWithCount, StandFor, fields_behind};
+ghost use Rattle.hv_proof_text.specs.Working.Gathering.{BeginsWithCount, StandFor};
 ghost use Rattle.hv_proof_text.specs.Working.Heads.{listed_by, listed_kind, listed_letter};
 ghost use Rattle.hv_proof_text.specs.Working.Tokens.{AreClauseTokens, AreRisingNumbers};
 ghost use Rattle.hv_proof_text.specs.Working.Tokens.{AreStateTokens};

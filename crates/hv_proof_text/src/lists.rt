@@ -8,9 +8,10 @@
 ghost use Rattle.std.specs.Prelude.{◌≡◌, ◌<◌, ◌^◌, ℕ, List, [], ◌∷◌, ◌++◌, MatchOption, IfOk, OnOk};
 ghost use Rattle.std.specs.Prelude.{true, false, None, Ok, Some};
 ghost use Rattle.std.specs.List.{All};
+ghost use Rattle.hv_bytes.specs.Working.Fields.{fields_behind};
 ghost use Rattle.hv_sets.specs.declared.literal.Literal.{Literal};
 ghost use Rattle.hv_proof_text.specs.Working.Gathering.{ReadsToken, StandFor, StopsAtToken};
-ghost use Rattle.hv_proof_text.specs.Working.Gathering.{clauses_from, fields_behind, numbers_from};
+ghost use Rattle.hv_proof_text.specs.Working.Gathering.{clauses_from, numbers_from};
 ghost use Rattle.hv_proof_text.specs.Working.Gathering.{states_from, whole_clauses, whole_states};
 ghost use Rattle.hv_proof_text.specs.Working.Pieces as Pieces;
 ghost use Rattle.hv_proof_text.specs.Working.Tokens.{AreRisingNumbers, AreClauseTokens};

@@ -2,9 +2,9 @@
 
 ghost use Rattle.std.specs.Prelude.{◌≡◌, ◌<◌, ◌^◌, ℕ, List, [], ◌∷◌, MatchOption, decimal};
 ghost use Rattle.hv_bytes.specs.Fields.{cut_fields};
+ghost use Rattle.hv_bytes.specs.Working.Fields.{fields_behind};
 ghost use Rattle.hv_lines.specs.Spelling.{FitsShortDecimal};
 ghost use Rattle.hv_lines.specs.declared.line.Constant.{Constant};
-ghost use Rattle.hv_proof_text.specs.Working.Gathering.{fields_behind};
 ghost use Rattle.hv_proof_text.specs.Working.Heads.{listed_by};
 ghost use Rattle.hv_proof_text.specs.Working.Tokens.{AreTokens, constant_letter, letter};
 ghost use Rattle.hv_proof_text.specs.Working.Tokens.{letter_field, number};

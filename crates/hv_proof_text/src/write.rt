@@ -173,7 +173,8 @@ fn push_word(text: &mut Text, word: Word) -> Result<(), AllocError>
 
 /// Appends the clauses, each with its end.
 fn push_clauses(text: &mut Text, clauses: &Clauses) -> Result<(), AllocError>
-    ensures ok { OnOk result (text.new ≡ with_fields text.old (flat_map clause_fields clauses.now)) }
+    ensures ok { OnOk result
+        (text.new ≡ with_fields text.old (flat_map clause_fields clauses.now)) }
     ensures keeps { KeepsFronts text.old text.new }
 {
     for place in 0..clauses.len() {

@@ -1,7 +1,6 @@
 -- Lists that are gathered from the fields of a line, one field after the other.
 use Rattle.std.specs.Prelude.{◌≡◌, ◌+◌, ℕ, List, [], ◌∷◌, ◌++◌, Option, None, Some, map}
 use Rattle.std.specs.List.{All}
-use Rattle.hv_bytes.specs.Fields.{cut_fields}
 use Rattle.hv_sets.specs.declared.literal.Literal.{Literal}
 use Rattle.hv_proof_text.specs.Working.Pieces.{clause_piece, state_piece}
 use Rattle.hv_proof_text.specs.Working.Tokens.{AreTokens, IsToken, field_of, number}
@@ -10,11 +9,6 @@ use Rattle.hv_proof_text.specs.declared.lists.ClausePiece.TheVariants as P
 use Rattle.hv_proof_text.specs.declared.lists.StatePiece.{StatePiece}
 use Rattle.hv_proof_text.specs.declared.lists.StatePiece.TheVariants as Q
 use Rattle.hv_proof_text.specs.declared.token.Token.{Token}
-
--- the fields of what follows in a line, if anything does
-abbrev pub fields_behind : {A : Type 0} → Option A → (A → List ℕ) → List (List ℕ)
-fields_behind None now = []
-fields_behind (Some rest) now = cut_fields (now rest)
 
 -- the fields denote tokens of which this holds
 abbrev pub StandFor : (List Token → Type 0) → List (List ℕ) → Type 0

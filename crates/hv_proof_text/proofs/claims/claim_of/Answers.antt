@@ -1,4 +1,4 @@
-use Rattle.hv_proof_text.specs.Working.Gathering.{fields_behind}
+use Rattle.hv_bytes.specs.Working.Fields.{fields_behind}
 use Rattle.hv_proof_text.proofs.KnownForms.{act_read, dead_read, sub_read}
 use Rattle.hv_proof_text.proofs.claims.claim_of.Goals as goal
 

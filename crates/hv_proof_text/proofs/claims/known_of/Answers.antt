@@ -1,4 +1,4 @@
-use Rattle.hv_proof_text.specs.Working.Gathering.{fields_behind}
+use Rattle.hv_bytes.specs.Working.Fields.{fields_behind}
 use Rattle.hv_proof_text.proofs.KnownForms.{known, no_support}
 use Rattle.hv_proof_text.proofs.claims.known_of.Goals as goal
 

@@ -1,5 +1,5 @@
 use Rattle.std.proofs.Common.{[], ap, subst}
-use Rattle.hv_proof_text.specs.Working.Gathering.{fields_behind}
+use Rattle.hv_bytes.specs.Working.Fields.{fields_behind}
 use Rattle.hv_proof_text.specs.Working.Tokens.{AreTokens}
 use Rattle.hv_proof_text.proofs.KnownForms.{more_fields}
 use Rattle.hv_proof_text.proofs.claims.no_premises.Goals as goal

@@ -1,5 +1,5 @@
 use Rattle.std.proofs.Common.{arith}
-use Rattle.hv_proof_text.specs.Working.Gathering.{fields_behind}
+use Rattle.hv_bytes.specs.Working.Fields.{fields_behind}
 use Rattle.hv_proof_text.proofs.KnownForms.{premised_one, premised_three, premised_two}
 use Rattle.hv_proof_text.proofs.claims.premises_in.Goals as goal
 

@@ -1,5 +1,5 @@
 use Rattle.std.proofs.Common.{sym}
-use Rattle.hv_proof_text.specs.Working.Gathering.{fields_behind}
+use Rattle.hv_bytes.specs.Working.Fields.{fields_behind}
 use Rattle.hv_proof_text.proofs.KnownForms.{not_premises}
 use Rattle.hv_proof_text.proofs.claims.support_of.Goals as goal
 

@@ -1,5 +1,5 @@
 use Rattle.std.proofs.Common.{◌∷◌}
-use Rattle.hv_proof_text.specs.Working.Gathering.{fields_behind}
+use Rattle.hv_bytes.specs.Working.Fields.{fields_behind}
 use Rattle.hv_proof_text.specs.Working.Tokens.{number}
 use Rattle.hv_proof_text.proofs.KnownForms.{behind_number}
 use Rattle.hv_proof_text.proofs.claims.two_first.Goals as goal

@@ -1,5 +1,5 @@
 use Rattle.hv_bytes.specs.Fields.{cut_fields}
-use Rattle.hv_proof_text.specs.Working.Gathering.{fields_behind}
+use Rattle.hv_bytes.specs.Working.Fields.{fields_behind}
 use Rattle.hv_proof_text.proofs.Names.{no_pair, no_word}
 use Rattle.hv_proof_text.proofs.fields.name_front.Goals as goal
 

@@ -1,6 +1,6 @@
 use Rattle.std.proofs.Common.{◌≡◌, ◌++◌, Ok, Err, ap, arith}
 use Rattle.std.specs.Prelude.{IsErrAnd, Result}
-use Rattle.hv_proof_text.specs.Working.Gathering.{fields_behind}
+use Rattle.hv_bytes.specs.Working.Fields.{fields_behind}
 use Rattle.hv_proof_text.proofs.Gathered.{gathers_no_token, gathers_too_many}
 use Rattle.hv_proof_text.proofs.Gathered.{gathers_tokens}
 use Rattle.hv_proof_text.proofs.fields.tokens_in.Goals as goal

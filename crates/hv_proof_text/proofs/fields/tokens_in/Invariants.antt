@@ -1,5 +1,6 @@
 use Rattle.std.proofs.Common.{◌++◌, length}
-use Rattle.hv_proof_text.specs.Working.Gathering.{Gathers, fields_behind}
+use Rattle.hv_bytes.specs.Working.Fields.{fields_behind}
+use Rattle.hv_proof_text.specs.Working.Gathering.{Gathers}
 use Rattle.hv_proof_text.proofs.fields.tokens_in.Given as goal
 
 abbrev pub invariant-fields : goal.invariant-fields

@@ -1,5 +1,5 @@
 use Rattle.std.proofs.Common.{◌∙◌, length, sym}
-use Rattle.hv_proof_text.specs.Working.Gathering.{fields_behind}
+use Rattle.hv_bytes.specs.Working.Fields.{fields_behind}
 use Rattle.hv_proof_text.specs.Working.Tokens.{AreClauseTokens}
 use Rattle.hv_proof_text.proofs.Gathered.{counted_never, counted_other, counted_some}
 use Rattle.hv_proof_text.proofs.TokenLists.{same_clauses}

@@ -1,5 +1,5 @@
 use Rattle.std.proofs.Common.{◌∙◌, sym}
-use Rattle.hv_proof_text.specs.Working.Gathering.{fields_behind}
+use Rattle.hv_bytes.specs.Working.Fields.{fields_behind}
 use Rattle.hv_proof_text.proofs.ListedForms.{listed_letters, plain_behind}
 use Rattle.hv_proof_text.proofs.forms.line_by.Goals as goal
 

@@ -1,9 +1,10 @@
 use Rattle.std.proofs.Common.{MatchOption}
 use Rattle.std.proofs.lemmas.Result.{IfOk-weaker}
+use Rattle.hv_bytes.specs.Working.Fields.{fields_behind}
 use Rattle.hv_lines.specs.Spelling.{Spells}
 use Rattle.hv_lines.specs.declared.line.Line.{Line}
 use Rattle.hv_proof_text.specs.Working.Forms.{LineForm}
-use Rattle.hv_proof_text.specs.Working.Gathering.{StandFor, fields_behind}
+use Rattle.hv_proof_text.specs.Working.Gathering.{StandFor}
 use Rattle.hv_proof_text.proofs.LineFields.{line_behind, no_head}
 use Rattle.hv_proof_text.proofs.forms.line_of.Goals as goal
 

@@ -1,4 +1,4 @@
-use Rattle.hv_proof_text.specs.Working.Gathering.{fields_behind}
+use Rattle.hv_bytes.specs.Working.Fields.{fields_behind}
 use Rattle.hv_proof_text.proofs.ListedForms.{acts_none, dual_none, horn_none, states_none, two_none}
 use Rattle.hv_proof_text.proofs.forms.listed_line.Goals as goal
 

@@ -1,5 +1,6 @@
 use Rattle.std.proofs.Common.{[], length}
-use Rattle.hv_proof_text.specs.Working.Gathering.{Gathers, clauses_from, fields_behind}
+use Rattle.hv_bytes.specs.Working.Fields.{fields_behind}
+use Rattle.hv_proof_text.specs.Working.Gathering.{Gathers, clauses_from}
 use Rattle.hv_proof_text.proofs.lists.clauses_in.Given as goal
 
 abbrev pub invariant-fields : goal.invariant-fields

@@ -1,5 +1,6 @@
 use Rattle.std.proofs.Common.{◌∙◌, [], Some, ap, refl}
-use Rattle.hv_proof_text.specs.Working.Gathering.{numbers_from, fields_behind}
+use Rattle.hv_bytes.specs.Working.Fields.{fields_behind}
+use Rattle.hv_proof_text.specs.Working.Gathering.{numbers_from}
 use Rattle.hv_proof_text.specs.Working.Tokens.{AreRisingNumbers}
 use Rattle.hv_proof_text.proofs.Gathered.{gathers_end, gathers_more, gathers_no_token, gathers_stop}
 use Rattle.hv_proof_text.proofs.TokenLists.{numbers_found, numbers_only}

@@ -1,6 +1,7 @@
 use Rattle.std.proofs.Common.{◌<◌, [], length}
 use Rattle.std.specs.List.{All}
-use Rattle.hv_proof_text.specs.Working.Gathering.{Gathers, states_from, fields_behind}
+use Rattle.hv_bytes.specs.Working.Fields.{fields_behind}
+use Rattle.hv_proof_text.specs.Working.Gathering.{Gathers, states_from}
 use Rattle.hv_proof_text.proofs.lists.states_in.Given as goal
 
 abbrev pub invariant-fields : goal.invariant-fields

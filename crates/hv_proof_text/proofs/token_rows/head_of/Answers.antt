@@ -1,6 +1,6 @@
 use Rattle.std.proofs.Common.{◌∷◌, decimal}
 use Rattle.hv_bytes.specs.Fields.{cut_fields}
-use Rattle.hv_proof_text.specs.Working.Gathering.{fields_behind}
+use Rattle.hv_bytes.specs.Working.Fields.{fields_behind}
 use Rattle.hv_proof_text.specs.Working.Tokens.{letter, letter_field, number}
 use Rattle.hv_proof_text.proofs.Gathered.{tokens_behind}
 use Rattle.hv_proof_text.proofs.token_rows.head_of.Goals as goal
