@@ -14,6 +14,7 @@ use Rattle.std.proofs.lemmas.List.Elements.{All-weaker}
 use Rattle.std.proofs.lemmas.List.Splits.{join_with_byte-slice_split, slice_split_at}
 use Rattle.std.proofs.lemmas.List.Splits.{slice_split_none}
 use Rattle.hv_bytes.specs.Fields.{cut_fields}
+use Rattle.hv_bytes.specs.Working.Fields.{fields_behind}
 use Rattle.hv_bytes.proofs.DecimalTexts.{no_space}
 use Rattle.hv_grammar.specs.Forms.{decimal_of}
 use Rattle.hv_grammar.proofs.Numerals.{decimal_of_is, is_decimal_of}
@@ -24,7 +25,6 @@ use Rattle.hv_replay.specs.LogFile.{atom_in, atoms_in, entry_in, entry_of_fields
 use Rattle.hv_replay.specs.LogFile.{kind_of_letter}
 use Rattle.hv_replay.specs.Logs.{IsAtomSet, LogEntry, letter_of}
 use Rattle.hv_replay.specs.Working.LogText.{IsEntryLine}
-use Rattle.hv_replay.specs.Working.Reading.{fields_in}
 
 -- the first is at least so great, and each further one greater than the one before it; all are
 -- below the bound
@@ -139,7 +139,7 @@ names atoms least (n ∷ ns) few r =
 pub split_is : {A : Type 0} (o : Option A) (now : A → List ℕ) (fields : List (List ℕ))
     (first : List ℕ)
     → MatchOption o (fields ≡ first ∷ []) (λ r. fields ≡ first ∷ cut_fields (now r))
-    → fields ≡ first ∷ fields_in o now
+    → fields ≡ first ∷ fields_behind o now
 split_is None now fields first h = h
 split_is (Some r) now fields first h = h
 

@@ -1,8 +1,9 @@
 //! The fields of a line of a log.
 
 ghost use Rattle.std.specs.Prelude.{◌≡◌, ◌<◌, ◌≤◌, [], IfOk, IfSome};
+ghost use Rattle.hv_bytes.specs.Working.Fields.{fields_behind};
 ghost use Rattle.hv_replay.specs.LogFile.{atom_in, atoms_in, kind_of_letter};
-ghost use Rattle.hv_replay.specs.Working.Reading.{begun_where, fields_in};
+ghost use Rattle.hv_replay.specs.Working.Reading.{begun_where};
 
 use hv_bytes::split_field;
 use hv_grammar::decimal;
@@ -44,7 +45,7 @@ pub(crate) fn put_atoms(
     requires few { atoms ≤ 65535 }
     requires none { states.old.begun ≡ [] }
     ensures put { IfOk result (λ put. begun_where put states.new
-        ≡ atoms_in atoms 0 (fields_in fields.entry (λ f. f.now))) }
+        ≡ atoms_in atoms 0 (fields_behind fields.entry (λ f. f.now))) }
     ensures others { IfOk result (λ _. states.new.whole ≡ states.old.whole) }
 {
     let mut least = 0;

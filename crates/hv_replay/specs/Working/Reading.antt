@@ -1,7 +1,6 @@
 -- What the reader of logs holds, and what it does with one line.
 use Rattle.std.specs.Prelude.{◌≡◌, ◌≤◌, ℕ, Bool, true, false, List, [], Option, None}
 use Rattle.std.specs.Prelude.{Some, Result, Ok, Err, length}
-use Rattle.hv_bytes.specs.Fields.{cut_fields}
 use Rattle.hv_grammar.specs.declared.fault.ParseFault.{ParseFault}
 use Rattle.hv_grammar.specs.declared.fault.ParseFault.TheVariants as P
 use Rattle.hv_sets.specs.Gathered.{Gathered}
@@ -9,11 +8,6 @@ use Rattle.hv_replay.specs.Logs.{IsLog, LogEntry, SearchLog}
 use Rattle.hv_replay.specs.Working.Logs.{counts_of, entries_of}
 use Rattle.hv_replay.specs.declared.entries.Entries.{Entries}
 use Rattle.hv_replay.specs.declared.fault.LogRefusal.{LogRefusal}
-
--- the fields of what is left of a line, if anything is
-abbrev pub fields_in : {A : Type 0} → Option A → (A → List ℕ) → List (List ℕ)
-fields_in None now = []
-fields_in (Some rest) now = cut_fields (now rest)
 
 -- the state that is begun, where it was put
 abbrev pub begun_where : Bool → Gathered ℕ → Option (List ℕ)
