@@ -1,9 +1,7 @@
 -- What is known before the action, whatever it is.
 use Rattle.std.proofs.Common.{◌≡◌, ℕ, ◌<◌, ◌≤◌, ◌∙◌, Bool, true, false, List, [], length, get_or}
-use Rattle.std.proofs.Common.{Option, Some, slice_get}
-use Rattle.std.proofs.Common.{refl, sym, ap, subst}
-use Rattle.std.proofs.lemmas.List.Elements.{All-contains}
-use Rattle.std.proofs.lemmas.List.Elements.{Contains-get_or}
+use Rattle.std.proofs.Common.{Option, refl, sym, ap, subst}
+use Rattle.std.proofs.lemmas.List.Elements.{All-contains, Contains-get_or}
 use Rattle.std.specs.List.{All, Contains}
 use Rattle.hv_task.specs.Strips.{Strips}
 use Rattle.hv_sets.specs.declared.literal.Literal.{Literal}
@@ -11,8 +9,6 @@ use Rattle.hv_sets.specs.declared.operand.Operand.{Operand}
 use Rattle.hv_sets.specs.declared.operand.Which.{Which}
 use Rattle.hv_sets.specs.declared.operand.Which.TheVariants as W
 use Rattle.hv_sets.specs.Query.{in_which}
-use Rattle.hv_indexes.specs.Signed.{StandsAs}
-use Rattle.hv_clauses.specs.declared.literal_owners.ClauseOwners.{ClauseOwners}
 use Rattle.hv_clauses.specs.declared.opening.Begun.{Begun}
 use Rattle.hv_clauses.specs.declared.opening.Begun.TheVariants as B
 use Rattle.hv_clauses.specs.declared.opening.Opening.TheVariants as O
@@ -20,7 +16,6 @@ use Rattle.hv_clauses.specs.Store.{formula_at, tests_of}
 use Rattle.hv_clauses.specs.Working.Early.{AreEarlyLeft, HoldInEarly, InEarly, IsBegunFrom}
 use Rattle.hv_clauses.specs.Working.Early.{IsOpened}
 use Rattle.hv_clauses.specs.Working.Found.{IsAskedTwice}
-use Rattle.hv_clauses.specs.Working.Owners.{AreOwners, Owns}
 use Rattle.hv_clauses.specs.Working.Posed.{InEach, ProblemState, formulas, turned_to, width}
 use Rattle.hv_clauses.specs.Working.Problem.{AreLeft, IsLeft, IsLeftOf}
 use Rattle.hv_clauses.specs.Working.Start.{HoldInEach, IsBasedOn}
@@ -130,35 +125,6 @@ twice_turned p action effect o is = record {
   stored = is.stored;
   named = is.named;
 }
-
--- the lists of the operands that have a literal are the same, whatever the action
-pub owners_turned : (p q : ProblemState) → q.store ≡ p.store
-    → q.query.positive ≡ p.query.positive → (owners : ClauseOwners)
-    → AreOwners p owners → AreOwners q owners
-owners_turned p q store positive owners are = λ sign.
-    let s = are sign in
-    record {
-      codes = s.codes;
-      rises = s.rises;
-      heads = s.heads;
-      places = s.places;
-      few = subst (λ (os : List Operand). length os ≤ 4294967295) (sym positive) s.few;
-      all = λ k atom less owns. s.all k atom
-          (subst (λ (os : List Operand). k < length os) positive less) (back _ k owns);
-    }
-  where
-    back : (l : Literal) (k : ℕ) → Owns q l k → Owns p l k
-    back l k owns = (
-      owns.0,
-      subst (λ (os : List Operand). slice_get os k ≡ Some owns.0) positive owns.1,
-      record {
-        number = owns.2.number;
-        which = owns.2.which;
-        place = owns.2.place;
-        stands = subst (λ s. StandsAs l.positive (formula_at s owns.2.number) l.atom owns.2.place)
-            store owns.2.stands;
-      },
-    )
 
 -- what is known at the start is so in each state that is in each positive operand
 pub hold_started : (p : ProblemState) (roots : List Literal) (k : Knowledge)
