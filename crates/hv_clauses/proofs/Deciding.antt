@@ -7,7 +7,6 @@ use Rattle.std.proofs.lemmas.List.Elements.{Contains-append_right, Contains-get_
 use Rattle.std.proofs.lemmas.Nat.{mod_below}
 use Rattle.std.proofs.lemmas.Option.{slice_get_past}
 use Rattle.std.specs.List.{All}
-use Rattle.hv_task.specs.State.{AreBelow}
 use Rattle.hv_sets.specs.declared.literal.Literal.{Literal}
 use Rattle.hv_sets.specs.declared.operand.Operand.{Operand}
 use Rattle.hv_sets.specs.declared.operand.Which.{Which}
@@ -128,11 +127,12 @@ module _ (p : ProblemState) where
   -- the positive operands can be completed
   pub positive_completes : (how : Completion) (IsOf : List Literal → Type 0)
       → CompletesClauses how IsOf → ((clause : List Literal) → IsShort clause → IsOf clause)
-      → AreBelow (width p) p.task.goal → All (IsKinded IsOf) p.store → IsPosed p
+      → All (IsKinded IsOf) p.store → IsPosed p
       → Completes how (InEach p) (AreEachSettled p) (width p)
-  positive_completes how IsOf law short goal kinded posed =
+  positive_completes how IsOf law short kinded posed =
       operands_complete how IsOf law short p.task (formulas p) (length p.store) p.effect
-      (clauses_in_is p.task (formulas p)) goal (λ n less. stored_kind IsOf p.store kinded n less)
+      (clauses_in_is p.task (formulas p)) posed.task.goal
+      (λ n less. stored_kind IsOf p.store kinded n less)
       (λ n less. stored_below IsOf p.store kinded n less _ posed.over) p.query.positive
       (named_first (length p.store) p.query.positive p.query.negative p.query.positive refl
       posed.named)

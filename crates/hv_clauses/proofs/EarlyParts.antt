@@ -26,7 +26,7 @@ use Rattle.hv_propagation.specs.Trail.{Grows, Knowledge, marked, marks_of}
 use Rattle.hv_propagation.proofs.Chasing.{kept_earlier}
 use Rattle.hv_propagation.proofs.Marked.{over-nil}
 use Rattle.hv_propagation.proofs.Trailed.{length-marked}
-use Rattle.hv_clauses.proofs.Problems.{left_grown}
+use Rattle.hv_clauses.specs.Working.Laws.{left_grown}
 
 -- an operand that is asked about before the action is seen through no effect
 late_none : (effect : List ℕ) (after : Bool) → after ≡ false → late effect after ≡ []

@@ -1,11 +1,9 @@
 -- The clauses of what operands name are of one kind, so settled marks can be completed for them
 -- together.
-use Rattle.std.proofs.Common.{◌≡◌, ℕ, zero, suc, ◌<◌, ◌∙◌, Bool, true, List, [], ◌∷◌, length}
-use Rattle.std.proofs.Common.{get_or, sym, subst, arith}
-use Rattle.std.proofs.lemmas.List.Elements.{All-contains, All-cons, All-map, All-nil, All-push}
-use Rattle.std.proofs.lemmas.List.Elements.{Contains-get_or}
+use Rattle.std.proofs.Common.{◌≡◌, ℕ, ◌<◌, ◌∙◌, Bool, true, List, length, get_or, sym, subst}
+use Rattle.std.proofs.lemmas.List.Elements.{All-contains, All-weaker, Contains-get_or}
 use Rattle.std.specs.List.{All, Contains}
-use Rattle.hv_task.specs.State.{AreBelow, names_atom}
+use Rattle.hv_task.specs.State.{AreBelow}
 use Rattle.hv_task.specs.Strips.{Strips, atoms}
 use Rattle.hv_sets.specs.declared.literal.Literal.{Literal}
 use Rattle.hv_sets.specs.declared.operand.Operand.{Operand}
@@ -19,7 +17,8 @@ use Rattle.hv_propagation.specs.declared.completion.Completion.TheVariants as C
 use Rattle.hv_propagation.specs.Clauses.{AreClauses}
 use Rattle.hv_clauses.specs.Store.{tests_of}
 use Rattle.hv_propagation.specs.Completion.{Completes}
-use Rattle.hv_clauses.specs.Working.Operands.{InAll, clauses_in, clauses_of_state, unit}
+use Rattle.hv_clauses.specs.Working.Laws.{constant_short}
+use Rattle.hv_clauses.specs.Working.Operands.{InAll, clauses_in}
 use Rattle.hv_propagation.specs.Effect.{late}
 use Rattle.hv_propagation.specs.Marks.{filled, over, low}
 use Rattle.hv_propagation.specs.Units.{AreSettled}
@@ -63,42 +62,25 @@ completes_same C.Try n P Q S T on back settle it = (
       (it.1 marks size known (settle marks size settled)),
 )
 
-alone_none : IsShort []
-alone_none l k cl ck = let less = cl.1 in absurd (omega arith)
-
-first_is : (x l : Literal) → Contains (x ∷ []) l → x ≡ l
-first_is x l c = at c.0 c.1 c.2
-  where
-    at : (k : ℕ) → k < 1 → get_or (x ∷ []) k l ≡ l → x ≡ l
-    at zero less e = e
-    at (suc k) less e = absurd (omega arith)
-
-alone_one : (x : Literal) → IsShort (x ∷ [])
-alone_one x l k cl ck = sym (first_is x l cl) ∙ first_is x k ck
-
 module _ (IsOf : List Literal → Type 0) (short : (clause : List Literal) → IsShort clause
     → IsOf clause) where
-  unit_kind : (atom : ℕ) (positive : Bool) → IsOf (unit atom positive)
-  unit_kind atom positive = short (unit atom positive)
-      (alone_one (record { atom = atom; positive = positive }))
+  -- the clauses of a constant are of each kind
+  constant_kind : (task : Strips) (formulas : ℕ → List (List Literal)) (which : Which)
+      → ((number : ℕ) → which ≡ W.Set number → ⊥) → All IsOf (clauses_in task formulas which)
+  constant_kind task formulas which none = All-weaker IsShort IsOf short
+      (clauses_in task formulas which) (constant_short task formulas which none)
 
-  state_kind : (n : ℕ) (held : List ℕ) → All IsOf (clauses_of_state n held)
-  state_kind zero held = All-nil IsOf
-  state_kind (suc n) held =
-      All-push IsOf (clauses_of_state n held) (unit n (names_atom held n)) (state_kind n held)
-      (unit_kind n (names_atom held n))
-
-  -- the clauses of a constant are of each kind, and those of a set of the store are of its kind
+  -- and those of a set of the store are of its kind
   pub constants_kind : (task : Strips) (formulas : ℕ → List (List Literal)) (count : ℕ)
       (which : Which)
       → ((number : ℕ) → number < count → All IsOf (formulas number)) → IsNamed count which
       → All IsOf (clauses_in task formulas which)
-  constants_kind task formulas count W.Empty each named = All-cons IsOf [] [] (short [] alone_none)
-      (All-nil IsOf)
-  constants_kind task formulas count W.Start each named = state_kind (atoms task) task.start
-  constants_kind task formulas count W.Goal each named =
-      All-map IsOf (λ atom. unit atom true) task.goal
-      (λ k d within. unit_kind (get_or task.goal k d) true)
+  constants_kind task formulas count W.Empty each named = constant_kind task formulas W.Empty
+      (λ n is. absurd cc)
+  constants_kind task formulas count W.Start each named = constant_kind task formulas W.Start
+      (λ n is. absurd cc)
+  constants_kind task formulas count W.Goal each named = constant_kind task formulas W.Goal
+      (λ n is. absurd cc)
   constants_kind task formulas count (W.Set number) each named = each number named
 
 -- and they speak of the atoms of the task alone

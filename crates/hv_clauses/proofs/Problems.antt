@@ -1,82 +1,31 @@
 -- The positive operands of a query, one after the other.
 use Rattle.std.proofs.Common.{◌≡◌, ℕ, ◌+◌, ◌<◌, ◌≤◌, ◌∙◌, ◌||◌, Bool, true, false, List, []}
-use Rattle.std.proofs.Common.{◌∷◌, Some, length, get_or, refl, sym, ap, arith, below_more, inl, inr}
+use Rattle.std.proofs.Common.{◌∷◌, Some, length, get_or, refl, sym, ap, arith, below_more, inl}
 use Rattle.std.proofs.Common.{subst}
 use Rattle.std.proofs.lemmas.List.{append-nil, get_or_default}
 use Rattle.std.specs.List.{All}
 use Rattle.hv_task.specs.State.{names_atom, state_of}
-use Rattle.hv_task.specs.Strips.{Strips}
 use Rattle.hv_sets.specs.declared.literal.Literal.{Literal}
 use Rattle.hv_sets.specs.declared.operand.Operand.{Operand}
 use Rattle.hv_sets.specs.declared.operand.Which.{Which}
-use Rattle.hv_sets.specs.declared.operand.Which.TheVariants as W
 use Rattle.hv_sets.specs.Query.{in_which}
 use Rattle.hv_sets.specs.Truth.{in_clause, in_literal, is_same}
 use Rattle.hv_propagation.specs.Chase.{IsFollowed}
 use Rattle.hv_indexes.specs.Places.{clause_at}
 use Rattle.hv_clauses.specs.Store.{tests_of}
-use Rattle.hv_clauses.specs.Working.Operands.{clauses_in, clauses_of_state}
+use Rattle.hv_clauses.specs.Working.Operands.{clauses_of_state}
 use Rattle.hv_propagation.specs.Effect.{late}
-use Rattle.hv_formula.specs.Kinded.{IsShort}
-use Rattle.hv_propagation.specs.Marks.{over, KeepsKnown}
+use Rattle.hv_propagation.specs.Marks.{over}
 use Rattle.hv_clauses.specs.Working.Posed.{InEach, ProblemState, formulas}
-use Rattle.hv_clauses.specs.Working.Problem.{AreEachSettled, AreLeft, InOne, IsLeft, IsLeftOf}
+use Rattle.hv_clauses.specs.Working.Problem.{AreLeft, InOne, IsLeft, IsLeftOf}
 use Rattle.hv_propagation.specs.Trail.{Grows, Knowledge, marks_of}
 use Rattle.hv_propagation.specs.Units.{IsSettled, value_of, AreSettled, IsConcluded}
-use Rattle.hv_propagation.proofs.Chasing.{followed_then, kept_grown, settled_end, true_at}
-use Rattle.hv_clauses.proofs.KindedOperands.{constants_kind}
-use Rattle.hv_propagation.proofs.Marked.{extends_same, value_extends}
+use Rattle.hv_propagation.proofs.Chasing.{followed_then, true_at}
+use Rattle.hv_clauses.specs.Working.Laws.{left_grown}
+use Rattle.hv_propagation.proofs.Marked.{extends_same}
 use Rattle.hv_clauses.proofs.OperandClauses.{clause_of_state_at, length-clauses_of_state}
 use Rattle.hv_clauses.proofs.OperandClauses.{start_holds}
 use Rattle.hv_propagation.proofs.Trailed.{length-marks}
-
--- a settled clause of one literal at most has a true one, which stays true
-settled_short : (e m k : List ℕ) (clause : List Literal) → IsShort clause → KeepsKnown m k
-    → IsSettled e m clause → IsSettled e k clause
-settled_short e m k clause short grows settled =
-    elim settled [
-      | inl at ↦ inl (at.0, at.1, value_extends e m k at.0 true grows at.2)
-      | inr two ↦ absurd (two.4 (short two.0 two.1 two.2 two.3))
-    ]
-
-units_stay : (e m k : List ℕ) (clauses : List (List Literal)) → All IsShort clauses → KeepsKnown m k
-    → AreSettled e clauses m → AreSettled e clauses k
-units_stay e m k clauses short grows settled = λ j d less.
-    settled_short e m k (get_or clauses j d) (short j d less) grows (settled j d less)
-
-module _ (task : Strips) (formulas : ℕ → List (List Literal)) (e : List ℕ) where
-  constant_short : (which : Which) → ((number : ℕ) → which ≡ W.Set number → ⊥)
-      → All IsShort (clauses_in task formulas which)
-  constant_short W.Empty none = constants_kind IsShort (λ c s. s) task formulas 0 W.Empty
-      (λ n less. absurd (omega arith)) tt
-  constant_short W.Start none = constants_kind IsShort (λ c s. s) task formulas 0 W.Start
-      (λ n less. absurd (omega arith)) tt
-  constant_short W.Goal none = constants_kind IsShort (λ c s. s) task formulas 0 W.Goal
-      (λ n less. absurd (omega arith)) tt
-  constant_short (W.Set number) none = absurd (none number refl)
-
-  pub left_ends : (which : Which) (k : Knowledge) (from : ℕ) → length k.trail ≤ from
-      → IsLeft task formulas e which k from
-      → AreSettled e (clauses_in task formulas which) (marks_of k)
-  left_ends W.Empty k from h left = left
-  left_ends W.Start k from h left = left
-  left_ends W.Goal k from h left = left
-  left_ends (W.Set number) k from h left = settled_end e (formulas number) k from h left
-
-  pub left_grown : (which : Which) (old new : Knowledge) (from : ℕ) → Grows old new
-      → from ≤ length old.trail
-      → IsLeft task formulas e which old from → IsLeft task formulas e which new from
-  left_grown W.Empty old new from grown h left =
-      units_stay e (marks_of old) (marks_of new) (clauses_in task formulas W.Empty)
-      (constant_short W.Empty (λ n is. absurd cc)) grown.grows left
-  left_grown W.Start old new from grown h left =
-      units_stay e (marks_of old) (marks_of new) (clauses_in task formulas W.Start)
-      (constant_short W.Start (λ n is. absurd cc)) grown.grows left
-  left_grown W.Goal old new from grown h left =
-      units_stay e (marks_of old) (marks_of new) (clauses_in task formulas W.Goal)
-      (constant_short W.Goal (λ n is. absurd cc)) grown.grows left
-  left_grown (W.Set number) old new from grown h left = kept_grown e (formulas number) old new from
-      grown h left
 
 pub followed_from : (P : List Bool → Type 0) (D : List ℕ → Type 0) (a b : Knowledge) (r : Bool)
     → IsConcluded P D (marks_of a) (marks_of b) r → Grows a b
@@ -153,48 +102,34 @@ module _ (p : ProblemState) (o : Operand) (which : Which) (is : o.which ≡ whic
       subst (λ e. IsLeft p.task (formulas p) e which k from) (sym through)
       (subst (λ w. IsLeft p.task (formulas p) (late p.effect o.after) w k from) is left)
 
--- The positive operands, one after the other.
-module _ (p : ProblemState) where
-  pub all_end : (k : Knowledge) (from : ℕ) → length k.trail ≤ from → AreLeft p k from
-      → AreEachSettled p (marks_of k)
-  all_end k from h left = λ j d less.
-      left_ends p.task (formulas p) (late p.effect (get_or p.query.positive j d).after)
-      (get_or p.query.positive j d).which k from h (left j d less)
+-- The positive operands, one after the other, as their list is gone through.
+module _ (p : ProblemState) (xs : List Operand) (same : xs ≡ p.query.positive) where
+  pub all_seen : (k : Knowledge) (from : ℕ)
+      → ((i : ℕ) → i < length xs → (f : Operand) → IsLeftOf p (get_or xs i f) k from)
+      → AreLeft p k from
+  all_seen k from seen =
+      subst (λ os. All (λ o. IsLeftOf p o k from) os) same (λ i f less. seen i less f)
 
-  pub all_stay : (old new : Knowledge) (from : ℕ) → Grows old new → from ≤ length old.trail
-      → AreLeft p old from → AreLeft p new from
-  all_stay old new from grown h left = λ j d less.
-      left_grown p.task (formulas p) (late p.effect (get_or p.query.positive j d).after)
-      (get_or p.query.positive j d).which old new from grown h (left j d less)
+  module _ (i : ℕ) (d : Operand) (within : i < length xs) where
+    pub operand_followed : (a b c : Knowledge) (r : Bool) → IsFollowed (InEach p) a b true
+        → IsFollowed (InOne p (get_or xs i d)) b c r → IsFollowed (InEach p) a c r
+    operand_followed a b c r first second =
+        followed_then (InEach p) (InOne p (get_or xs i d)) a b c r
+        (λ s size inside. subst (λ os. All (λ o. InOne p o s) os) (sym same) inside i d within)
+        first second
 
-  -- The list of them, as it is gone through.
-  module _ (xs : List Operand) (same : xs ≡ p.query.positive) where
-    pub all_seen : (k : Knowledge) (from : ℕ)
-        → ((i : ℕ) → i < length xs → (f : Operand) → IsLeftOf p (get_or xs i f) k from)
-        → AreLeft p k from
-    all_seen k from seen =
-        subst (λ os. All (λ o. IsLeftOf p o k from) os) same (λ i f less. seen i less f)
+    pub operand_left : (k : Knowledge) (from : ℕ) → AreLeft p k from
+        → IsLeftOf p (get_or xs i d) k from
+    operand_left k from left =
+        subst (λ os. All (λ o. IsLeftOf p o k from) os) (sym same) left i d within
 
-    module _ (i : ℕ) (d : Operand) (within : i < length xs) where
-      pub operand_followed : (a b c : Knowledge) (r : Bool) → IsFollowed (InEach p) a b true
-          → IsFollowed (InOne p (get_or xs i d)) b c r → IsFollowed (InEach p) a c r
-      operand_followed a b c r first second =
-          followed_then (InEach p) (InOne p (get_or xs i d)) a b c r
-          (λ s size inside. subst (λ os. All (λ o. InOne p o s) os) (sym same) inside i d within)
-          first second
-
-      pub operand_left : (k : Knowledge) (from : ℕ) → AreLeft p k from
-          → IsLeftOf p (get_or xs i d) k from
-      operand_left k from left =
-          subst (λ os. All (λ o. IsLeftOf p o k from) os) (sym same) left i d within
-
-      -- what was seen stays seen, and one more is
-      pub operand_seen : (old new : Knowledge) (from : ℕ) → Grows old new → from ≤ length old.trail
-          → ((k : ℕ) → k < i → (f : Operand) → IsLeftOf p (get_or xs k f) old from)
-          → IsLeftOf p (get_or xs i d) new from
-          → (k : ℕ) → k < i + 1 → (f : Operand) → IsLeftOf p (get_or xs k f) new from
-      operand_seen old new from grown h before here =
-          below_more (λ k. (f : Operand) → IsLeftOf p (get_or xs k f) new from) i
-          (λ k less f. left_grown p.task (formulas p) (late p.effect (get_or xs k f).after)
-          (get_or xs k f).which old new from grown h (before k less f))
-          (λ f. subst (λ o. IsLeftOf p o new from) (get_or_default xs i d f within) here)
+    -- what was seen stays seen, and one more is
+    pub operand_seen : (old new : Knowledge) (from : ℕ) → Grows old new → from ≤ length old.trail
+        → ((k : ℕ) → k < i → (f : Operand) → IsLeftOf p (get_or xs k f) old from)
+        → IsLeftOf p (get_or xs i d) new from
+        → (k : ℕ) → k < i + 1 → (f : Operand) → IsLeftOf p (get_or xs k f) new from
+    operand_seen old new from grown h before here =
+        below_more (λ k. (f : Operand) → IsLeftOf p (get_or xs k f) new from) i
+        (λ k less f. left_grown p.task (formulas p) (late p.effect (get_or xs k f).after)
+        (get_or xs k f).which old new from grown h (before k less f))
+        (λ f. subst (λ o. IsLeftOf p o new from) (get_or_default xs i d f within) here)

@@ -10,3 +10,4 @@ pub mod Early
 pub mod Front
 pub mod Affected
 pub mod Owners
+pub mod Laws

@@ -70,9 +70,7 @@ pub(crate) fn deny_clause<K: ClauseKind>(
     match operand.which {
         Which::Empty => true,
         Which::Start => {
-            // For its contract alone: the problem keeps its form.
-            let _atoms = problem.atoms();
-            let literal = problem.start_literal(place as u32);
+            let literal = problem.start_literal(place);
             literals::deny(slice::from_ref(&literal), &seen, marks)
         }
         Which::Goal => {

@@ -34,7 +34,7 @@ use crate::opening::Begun;
 use crate::problem::{self, Problem};
 use crate::{affected, choices, fronts, literal_owners, precondition, refuted};
 use hv_formula::ClauseKind;
-use hv_propagation::{Assignment, Constraint, propagation};
+use hv_propagation::{Assignment, propagation};
 use hv_sets::{Finding, Operand, Query, Scratch};
 use hv_task::{State, Task};
 use std::alloc::Global;
@@ -211,7 +211,6 @@ fn follow_first<K: ClauseKind>(
     requires begun { IsSearchBegun problem.now (length marks.old.trail) marks.old }
     ensures { Grows marks.old marks.new }
 {
-    problem.laws();
     let point = marks.len();
     if !choices::deny_all(problem, 0, marks) {
         return false;
@@ -352,7 +351,6 @@ fn try_choice<K: ClauseKind>(
     ensures state { length state.new ≡ length state.old }
 {
     let how = problem.completion();
-    problem.laws();
     let point = marks.len();
     if !choices::deny_all(problem, number, marks) {
         return false;

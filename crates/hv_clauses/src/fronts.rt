@@ -33,7 +33,7 @@ ghost use Rattle.hv_propagation.specs.Trail.{Grows, marks_of};
 use crate::problem::Problem;
 use crate::{choices, refuted};
 use hv_formula::ClauseKind;
-use hv_propagation::{Assignment, Constraint, propagation};
+use hv_propagation::{Assignment, propagation};
 use hv_sets::Operand;
 use hv_task::State;
 
@@ -229,7 +229,6 @@ fn deny<K: ClauseKind>(
     ensures left { result ≡ true → AreLeft problem.now marks.new (length marks.new.trail) }
     ensures grown { Grows marks.old marks.new }
 {
-    problem.laws();
     let point = marks.len();
     if !choices::deny_clause(problem, operand, digit, marks) {
         return false;
@@ -251,6 +250,5 @@ fn finish<K: ClauseKind>(
     ensures state { length state.new ≡ length state.old }
 {
     let how = problem.completion();
-    problem.laws();
     propagation::complete(how, problem, marks, state)
 }

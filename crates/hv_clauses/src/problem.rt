@@ -20,6 +20,7 @@ ghost use Rattle.hv_clauses.specs.Working.Posed.{InEach, IsPosed, formulas, size
 ghost use Rattle.hv_clauses.specs.Working.Posed.{width};
 ghost use Rattle.hv_clauses.specs.Working.Early.{AreEarlyLeft};
 ghost use Rattle.hv_clauses.specs.Inquiry.{asked_with};
+ghost use Rattle.hv_clauses.specs.Working.Laws as laws;
 ghost use Rattle.hv_clauses.specs.Working.Problem.{AreEachSettled, AreLeft, InOne, IsLeftOf};
 ghost use Rattle.hv_propagation.specs.Trail.{marks_of};
 ghost use Rattle.hv_propagation.specs.Units.{AreSettled};
@@ -178,12 +179,15 @@ impl<'a, K: ClauseKind> Problem<'a, K> {
     }
 
     /// What is true of the atom in the initial state.
-    pub(crate) fn start_literal(&self, atom: u32) -> Literal
+    pub(crate) fn start_literal(&self, atom: u64) -> Literal
+        requires { atom < width self.now }
         ensures { result ≡ record { atom = atom; positive = names_atom self.now.task.start atom } }
     {
+        let start = self.task.start();
+        let atom = atom as u32;
         Literal {
             atom,
-            positive: self.task.start().has(atom),
+            positive: start.has(atom),
         }
     }
 
@@ -250,8 +254,6 @@ impl<'a, K: ClauseKind> Problem<'a, K> {
             (width self.now) }
         ensures wide { length self.now.effect ≡ width self.now }
     {
-        // For its contract alone: the task is one.
-        let _atoms = self.task.atoms();
         self.store.completion()
     }
 }
@@ -279,7 +281,9 @@ impl<K: ClauseKind> Constraint for Problem<'_, K> {
         }
     }
 
-    fn laws(&self) {}
+    ghost left_ends = { laws.all_end };
+
+    ghost left_stays = { laws.all_stay };
 }
 
 // About how many clauses of the positive operands are looked at where a literal is followed up.
@@ -563,7 +567,7 @@ fn start_start<K: ClauseKind>(
         (clauses_of_state (width problem.now) problem.now.task.start) (marks_of marks.new) }
 {
     for atom in 0..problem.atoms() {
-        let literal = problem.start_literal(atom);
+        let literal = problem.start_literal(atom as u64);
         if !literals::force(literal, effect, marks) {
             return false;
         }

@@ -18,7 +18,8 @@ use Rattle.hv_propagation.specs.Chase.{AreKept, IsFollowed}
 use Rattle.hv_propagation.specs.Forced.{AreForced, AreNever}
 use Rattle.hv_propagation.specs.Completion.{IsCompleted}
 use Rattle.hv_propagation.specs.Trail.{Grows, Knowledge, marked, marks_of}
-use Rattle.hv_propagation.proofs.Chasing.{grown_by, grown_more, kept_grown, kept_settled, longer}
+use Rattle.hv_propagation.proofs.Chasing.{grown_by, grown_more, kept_settled, longer}
+use Rattle.hv_propagation.specs.Working.Laws.{kept_grown}
 use Rattle.hv_propagation.proofs.Chasing.{marked_more, undone_same}
 use Rattle.hv_propagation.proofs.Marked.{agrees_extends, agrees_write, has_atom-literal, over-nil}
 use Rattle.hv_propagation.proofs.Steps.{IsMarked}

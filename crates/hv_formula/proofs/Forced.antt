@@ -23,8 +23,9 @@ use Rattle.hv_propagation.specs.Trail.{Knowledge, marked, marks_of}
 use Rattle.hv_propagation.specs.Units.{IsSettled, first_of, value_of, AreSettled}
 use Rattle.hv_task.proofs.Listing.{rises-push}
 use Rattle.hv_propagation.proofs.Around.{forced_around}
-use Rattle.hv_propagation.proofs.Marked.{known_past, value_marked}
-use Rattle.hv_propagation.proofs.Trailed.{known-replicate, known-set_other, known-set_same}
+use Rattle.hv_propagation.specs.Working.Laws.{known_past, value_marked, known-set_other}
+use Rattle.hv_propagation.specs.Working.Laws.{known-set_same}
+use Rattle.hv_propagation.proofs.Trailed.{known-replicate}
 use Rattle.hv_propagation.proofs.Trailed.{length-marked, length-marks, written-push, written_none}
 
 module _ (ls : List Literal) (bound : ℕ) (listed : ListsBelow bound ls) where

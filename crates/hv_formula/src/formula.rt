@@ -100,7 +100,8 @@ impl<K: ClauseKind> Formula<K> {
 
     /// How many atoms the task has.
     pub fn atoms(&self) -> u32
-        ensures { result ≡ self.now.atoms }
+        ensures atoms { result ≡ self.now.atoms }
+        ensures few { self.now.atoms ≤ 2 ^ 31 }
     {
         self.atoms
     }

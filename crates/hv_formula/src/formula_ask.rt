@@ -81,8 +81,6 @@ impl<'a, K: ClauseKind> FormulaAsk<'a, K> {
         ensures wanted { IfOk result (λ ask. (s : List Bool)
             → ⟦<FormulaAsk<'a, K> as Asker>⟧.wanted ask s ≡ in_formula set.now s) }
     {
-        // It has at most 2^31 atoms.
-        let _ = set.bare();
         let marks = Assignment::owned(alloc, set.atoms() as usize, roots)?;
         let starts = Vec::new(alloc);
         let literals = Vec::new(alloc);

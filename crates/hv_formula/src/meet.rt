@@ -14,7 +14,7 @@ ghost use Rattle.hv_propagation.specs.Units.{AreSettled};
 
 use crate::clause_kind::ClauseKind;
 use crate::formula::Formula;
-use hv_propagation::{ActionEffect, Assignment, BareClauses, Constraint, literals, propagation};
+use hv_propagation::{ActionEffect, Assignment, BareClauses, literals, propagation};
 use hv_sets::Literal;
 use hv_task::State;
 
@@ -66,7 +66,6 @@ fn meet_from<K: ClauseKind>(
         state.new }
     ensures state { length state.new ≡ length state.old }
 {
-    bare.laws();
     let none = ActionEffect::none();
     if !literals::force_all(cube, &none, marks) {
         return false;

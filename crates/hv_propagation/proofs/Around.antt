@@ -21,7 +21,7 @@ use Rattle.hv_propagation.proofs.Holding.{clause_found, in_cube-Decides}
 use Rattle.hv_propagation.specs.Trail.{marked}
 use Rattle.hv_propagation.specs.Working.UnitRounds.{HasTwo}
 use Rattle.hv_propagation.specs.UnitRounds.{IsAround}
-use Rattle.hv_propagation.proofs.Chasing.{written_or}
+use Rattle.hv_propagation.specs.Working.Laws.{written_or}
 use Rattle.hv_propagation.proofs.Marked.{has_atom-literal, over-nil, value_false}
 use Rattle.hv_propagation.proofs.Rounds.{never}
 use Rattle.hv_propagation.proofs.Trailed.{known-replicate}

@@ -9,7 +9,8 @@ use Rattle.hv_task.specs.State.{AreBelow}
 use Rattle.hv_propagation.specs.Working.Effect.{effect_of, overwrite}
 use Rattle.hv_propagation.specs.Marks.{known, mark_for}
 use Rattle.hv_propagation.proofs.Effects.{length-overwrite}
-use Rattle.hv_propagation.proofs.Trailed.{known-replicate, known-set_other, known-set_same}
+use Rattle.hv_propagation.proofs.Trailed.{known-replicate}
+use Rattle.hv_propagation.specs.Working.Laws.{known-set_other, known-set_same}
 use Rattle.hv_propagation.proofs.Trailed.{length-zeros}
 use Rattle.std.specs.Prelude.{slice_set}
 

@@ -1,19 +1,15 @@
 -- Why it is enough to look again at the clauses that have the opposite of a literal of the trail.
 use Rattle.std.proofs.Common.{◌≡◌, ℕ, zero, suc, ◌+◌, ◌<◌, ◌≤◌, ◌∙◌, ◌⊎◌, Bool, true, false, not}
-use Rattle.std.proofs.Common.{cond, List, [], ◌∷◌, ◌++◌, Option, None, Some, length, get_or, drop}
+use Rattle.std.proofs.Common.{List, [], ◌∷◌, ◌++◌, None, Some, length, get_or, drop}
 use Rattle.std.proofs.Common.{take, refl, sym, ap, ap₂, arith, inl, inr, subst, append_assoc, ◌-◌}
 use Rattle.std.proofs.Common.{◌==◌, ◌&&◌}
-use Rattle.std.proofs.lemmas.Bool.{cases_eq, cases_lt}
-use Rattle.std.proofs.lemmas.List.{get_or-drop, length-drop, append-nil, drop-append-le, drop_more}
-use Rattle.std.proofs.lemmas.List.{drop_all, take_at, get_or_append_left, get_or_default}
-use Rattle.std.proofs.lemmas.List.{length-append, length-set}
-use Rattle.std.proofs.lemmas.List.Elements.{All-contains, Contains-append_left}
-use Rattle.std.proofs.lemmas.List.Elements.{Contains-append_right}
+use Rattle.std.proofs.lemmas.List.{get_or-drop, length-drop, append-nil, drop_more, take_at}
+use Rattle.std.proofs.lemmas.List.{get_or_append_left, length-append}
+use Rattle.std.proofs.lemmas.List.Elements.{All-contains}
 use Rattle.std.proofs.lemmas.List.Folds.{Any-from_list_any, list_any_none}
 use Rattle.std.proofs.lemmas.Option.{get_or_from_slice_get}
 use Rattle.std.proofs.Math.Bool.{beq}
 use Rattle.std.specs.List.{All, Contains, list_any}
-use Rattle.std.specs.Option.{option_map}
 use Rattle.std.specs.Prelude.{slice_get, slice_set}
 use Rattle.hv_sets.specs.declared.literal.Literal.{Literal}
 use Rattle.hv_sets.specs.Cubes.{SpeakBelow, opposite}
@@ -25,136 +21,15 @@ use Rattle.hv_indexes.specs.Places.{clause_at}
 use Rattle.hv_propagation.specs.Clauses.{AreClauses}
 use Rattle.hv_propagation.proofs.Holding.{has_literal-Decides}
 use Rattle.hv_propagation.specs.Marks.{known, over, mark_for}
-use Rattle.hv_propagation.specs.Trail.{Grows, Knowledge, marks_of, written}
-use Rattle.hv_propagation.specs.Units.{IsSettled, first_of, value_of, AreFalse, AreSettled}
+use Rattle.hv_propagation.specs.Trail.{Grows, Knowledge, marks_of}
+use Rattle.hv_propagation.specs.Units.{IsSettled, value_of, AreFalse, AreSettled}
 use Rattle.hv_propagation.proofs.Effects.{list_all_get}
-use Rattle.hv_propagation.proofs.Marked.{extends_same, extends_then, extends_write, known_past}
-use Rattle.hv_propagation.proofs.Marked.{value_false, value_marked, value_none}
+use Rattle.hv_propagation.specs.Working.Laws.{known-set_other, known-set_same, value_marked}
+use Rattle.hv_propagation.proofs.Marked.{extends_same, extends_then, extends_write, value_false}
+use Rattle.hv_propagation.proofs.Marked.{value_none}
 use Rattle.hv_propagation.proofs.Rounds.{never}
 use Rattle.hv_propagation.proofs.Steps.{IsMarked, follows_write, grows_write}
-use Rattle.hv_propagation.proofs.Trailed.{known-set_other, known-set_same, length-marks}
-use Rattle.hv_propagation.proofs.Trailed.{written-push}
-
-written-append : (xs ys : List Literal) (m : List ℕ)
-    → written (xs ++ ys) m ≡ written ys (written xs m)
-written-append [] ys m = refl
-written-append (x ∷ xs) ys m = written-append xs ys (slice_set m x.atom (mark_for x.positive))
-
--- of each atom the same is known as before, or what a literal of the trail says
-pub written_or : (ls : List Literal) (m : List ℕ) (p : ℕ)
-    → (known (written ls m) p ≡ known m p)
-    ⊎ ((l : Literal) × Contains ls l × (l.atom ≡ p)
-    × (known (written ls m) p ≡ Some l.positive))
-written_or [] m p = inl refl
-written_or (x ∷ xs) m p =
-    let rest = slice_set m x.atom (mark_for x.positive) in
-    elim (written_or xs rest p) [
-      | inr found ↦ inr (
-        found.0,
-        (suc found.1.0, omega (arith, found.1.1), found.1.2),
-        found.2,
-        found.3,
-      )
-      | inl same ↦
-          elim (cases_eq x.atom p) [
-            | inr other ↦ inl (same ∙ known-set_other m x.atom p x.positive (λ e. other (sym e)))
-            | inl here ↦
-                elim (cases_lt x.atom (length m)) [
-                  | inl less ↦ inr (
-                    x,
-                    (0, omega arith, refl),
-                    here,
-                    same
-                        ∙ (sym (ap (known rest) here) ∙ known-set_same m x.atom x.positive less),
-                  )
-                  | inr past ↦
-                      let size = length-set m x.atom (mark_for x.positive) in
-                      inl (same ∙ (known_past rest p (omega (arith, here))
-                      ∙ sym (known_past m p (omega (arith, here)))))
-                ]
-          ]
-    ]
-
-not_twice : (a b : Bool) → (a ≡ not b → ⊥) → a ≡ b
-not_twice true true h = refl
-not_twice true false h = absurd (h refl)
-not_twice false true h = absurd (h refl)
-not_twice false false h = refl
-
--- a literal whose opposite isn't found true has the value that it had, or it is true
-value_or : (e m : List ℕ) (more : List Literal) (l : Literal)
-    → ((x : Literal) → Contains more x → opposite x ≡ l → ⊥)
-    → (value_of e (written more m) l ≡ value_of e m l) ⊎ (value_of e (written more m) l ≡ Some true)
-value_or e m more l apart =
-    elim (written_or more m l.atom) [
-      | inl same ↦ inl (ap (λ o. option_map
-          (λ value. cond l.positive value (not value)) (first_of (known e l.atom) o)) same)
-      | inr found ↦
-          let x = found.0 in
-          let sign : x.positive ≡ l.positive =
-          not_twice x.positive l.positive (λ e. apart x found.1
-          (λ i. record { atom = found.2 i; positive = turned x.positive l.positive e i })) in
-          by (known e l.atom) refl (found.3 ∙ ap (λ (b : Bool). Some b) sign)
-    ]
-  where
-    turned : (a b : Bool) → a ≡ not b → not a ≡ b
-    turned true true h = sym h
-    turned true false h = refl
-    turned false true h = refl
-    turned false false h = sym h
-
-    by : (o : Option Bool) → known e l.atom ≡ o → known (written more m) l.atom ≡ Some l.positive
-        → (value_of e (written more m) l ≡ value_of e m l)
-        ⊎ (value_of e (written more m) l ≡ Some true)
-    by None none here = inr (value_marked e (written more m) l none here)
-    by (Some v) some here =
-        let word : Option Bool → Option Bool = λ o. option_map
-        (λ value. cond l.positive value (not value)) o in
-        inl (ap (λ o. word (first_of o (known (written more m) l.atom))) some
-        ∙ sym (ap (λ o. word (first_of o (known m l.atom))) some))
-
--- so a clause without the opposite of a literal that is found true stays settled
-settled_on : (e m : List ℕ) (more clause : List Literal)
-    → ((x l : Literal) → Contains more x → Contains clause l → opposite x ≡ l → ⊥)
-    → IsSettled e m clause → IsSettled e (written more m) clause
-settled_on e m more clause apart settled =
-    elim settled [
-      | inl at ↦
-          elim (value_or e m more at.0 (λ x has same. apart x at.0 has at.1 same)) [
-            | inl same ↦ inl (at.0, at.1, same ∙ at.2)
-            | inr is ↦ inl (at.0, at.1, is)
-          ]
-      | inr two ↦
-          elim (value_or e m more two.0 (λ x has same. apart x two.0 has two.2 same)) [
-            | inr is ↦ inl (two.0, two.2, is)
-            | inl same ↦
-                elim (value_or e m more two.1 (λ x has equal. apart x two.1 has two.3 equal)) [
-                  | inr is ↦ inl (two.1, two.3, is)
-                  | inl equal ↦ inr (two.0, two.1, two.2, two.3, two.4, same ∙ two.5, equal ∙ two.6)
-                ]
-          ]
-    ]
-
--- what was kept is kept while the trail grows
-pub kept_on : (e : List ℕ) (clause : List Literal) (old new : Knowledge) (from : ℕ)
-    → new.roots ≡ old.roots
-    → ((more : List Literal) × (new.trail ≡ old.trail ++ more)) → from ≤ length old.trail
-    → IsKept e clause old from → IsKept e clause new from
-kept_on e clause old new from roots grown h kept = λ apart.
-    let more = grown.0 in
-    let split : drop from new.trail ≡ drop from old.trail ++ more = ap (drop from) grown.1
-    ∙ drop-append-le from old.trail more h in
-    let marks : marks_of new ≡ written more (marks_of old) =
-    ap (λ b. written new.trail b) roots
-    ∙ (ap (λ ls. written ls old.roots) grown.1 ∙ written-append old.trail more old.roots) in
-    subst (λ m. IsSettled e m clause) (sym marks)
-    (settled_on e (marks_of old) more clause
-    (λ x l at has same. apart x
-    (subst (λ ls. Contains ls x) (sym split)
-    (Contains-append_right (drop from old.trail) more x at))
-    (subst (λ y. Contains clause y) (sym same) has))
-    (kept (λ x at has. apart x (subst (λ ls. Contains ls x) (sym split)
-    (Contains-append_left (drop from old.trail) more x at)) has)))
+use Rattle.hv_propagation.proofs.Trailed.{length-marks, written-push}
 
 -- a clause has the literal or not
 has_or : (clause : List Literal) (l : Literal) → Contains clause l ⊎ (Contains clause l → ⊥)
@@ -210,18 +85,6 @@ kept_next e clauses places m from literal h at kept row seen =
     kept_beyond e clauses m from literal h at kept
     (λ place less found. seen place
     ((row.has place).1 (record { among = less; has = found })))
-
--- when nothing is left on the trail, all clauses are settled
-pub settled_end : (e : List ℕ) (clauses : List (List Literal)) (m : Knowledge) (from : ℕ)
-    → length m.trail ≤ from → AreKept e clauses m from
-    → AreSettled e clauses (marks_of m)
-settled_end e clauses m from h kept = λ k d less.
-    subst (λ c. IsSettled e (marks_of m) c) (get_or_default clauses k [] d less)
-    (kept k less (λ x has within. nothing x
-    (subst (λ ls. Contains ls x) (drop_all from m.trail h) has)))
-  where
-    nothing : (x : Literal) → Contains [] x → ⊥
-    nothing x has = omega (arith, has.1)
 
 -- parts of what follows, joined
 pub followed_none : (Holds : List Bool → Type 0) (k : Knowledge) → IsFollowed Holds k k true
@@ -376,13 +239,6 @@ pub read_on : (old new more : List Literal) (from : ℕ) (l : Literal) → from 
 read_on old new more from l less e read =
     ap (λ ls. get_or ls from l) e ∙ (get_or_append_left old more l from less
     ∙ get_or_from_slice_get old from l l read)
-
--- the same for all clauses
-pub kept_grown : (e : List ℕ) (clauses : List (List Literal)) (old new : Knowledge) (from : ℕ)
-    → Grows old new → from ≤ length old.trail
-    → AreKept e clauses old from → AreKept e clauses new from
-kept_grown e clauses old new from grown h kept = λ place less.
-    kept_on e (clause_at clauses place) old new from grown.roots grown.more h (kept place less)
 
 -- a trial that is taken back
 pub undone_same : (old mid new : Knowledge) → Grows old mid

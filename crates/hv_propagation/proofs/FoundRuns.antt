@@ -31,7 +31,8 @@ use Rattle.hv_propagation.specs.Working.FoundRun.{IsForcedEntry, IsKnownEntry, I
 use Rattle.hv_propagation.specs.Working.Trail.{AreJoined, trail_of}
 use Rattle.hv_propagation.proofs.Chasing.{followed_none, followed_then, marked_more, true_at}
 use Rattle.hv_propagation.proofs.Marked.{agrees_write, extends_same, extends_write}
-use Rattle.hv_propagation.proofs.Marked.{has_atom-literal, over-none, value_false, value_marked}
+use Rattle.hv_propagation.proofs.Marked.{has_atom-literal, over-none, value_false}
+use Rattle.hv_propagation.specs.Working.Laws.{value_marked}
 use Rattle.hv_propagation.proofs.PartnerEntries.{pair_settled}
 use Rattle.hv_propagation.proofs.Rounds.{never}
 use Rattle.hv_propagation.proofs.Trailed.{joined_more}

@@ -1,11 +1,11 @@
 -- Laws of marks: marks put over a state, what agrees with them, and what is known through an
 -- effect.
-use Rattle.std.proofs.Common.{◌≡◌, ℕ, zero, suc, ◌<◌, ◌≤◌, ◌∙◌, ◌⊎◌, Bool, true, false, not, cond}
+use Rattle.std.proofs.Common.{◌≡◌, ℕ, zero, suc, ◌<◌, ◌∙◌, ◌⊎◌, Bool, true, false, not, cond}
 use Rattle.std.proofs.Common.{List, [], ◌∷◌, length, replicate, Option, None, Some, refl, sym, ap}
 use Rattle.std.proofs.Common.{arith, inl, inr}
 use Rattle.std.proofs.Math.Bool.{beq}
 use Rattle.std.proofs.lemmas.Bool.{cases_eq, cases_lt}
-use Rattle.std.proofs.lemmas.List.{get_or_past, get_or-replicate, length-replicate}
+use Rattle.std.proofs.lemmas.List.{get_or-replicate, length-replicate}
 use Rattle.std.proofs.lemmas.List.Elements.{All-weaker}
 use Rattle.std.specs.Option.{option_map}
 use Rattle.hv_task.specs.State.{has_atom}
@@ -14,13 +14,10 @@ use Rattle.hv_sets.specs.declared.literal.Literal.{Literal}
 use Rattle.hv_sets.specs.Cubes.{opposite}
 use Rattle.hv_sets.specs.Truth.{in_literal}
 use Rattle.hv_propagation.proofs.Holding.{not_turned}
-use Rattle.hv_propagation.specs.Marks.{filled, known, mark_of, or_else, over, Agrees, KeepsKnown}
+use Rattle.hv_propagation.specs.Marks.{filled, known, or_else, over, Agrees, KeepsKnown}
 use Rattle.hv_propagation.specs.Marks.{low}
 use Rattle.hv_propagation.specs.Units.{first_of, known_through, value_of, AreFalse}
-
--- past the end nothing is known
-pub known_past : (m : List ℕ) (p : ℕ) → length m ≤ p → known m p ≡ None
-known_past m p h = ap mark_of (get_or_past m p 0 h)
+use Rattle.hv_propagation.specs.Working.Laws.{known_past}
 
 -- so something is known of atoms within the marks alone
 pub known_within : (m : List ℕ) (p : ℕ) (b : Bool) → known m p ≡ Some b → p < length m
@@ -244,19 +241,6 @@ pub value_from_opposite : (e m : List ℕ) (l : Literal) (b : Bool)
     → value_of e m (opposite l) ≡ Some b
     → value_of e m l ≡ Some (not b)
 value_from_opposite e m l b h = turned_back (known_through e m l.atom) l.positive b h
-
--- a literal whose atom was marked by its sign is true, where the effect says nothing of it
-pub value_marked : (e m : List ℕ) (l : Literal) → known e l.atom ≡ None
-    → known m l.atom ≡ Some l.positive
-    → value_of e m l ≡ Some true
-value_marked e m l none here =
-    ap (option_map (λ value. cond l.positive value (not value)))
-    (ap (λ o. first_of o (known m l.atom)) none ∙ here)
-    ∙ own l.positive
-  where
-    own : (sign : Bool) → Some (cond sign sign (not sign)) ≡ Some true
-    own true = refl
-    own false = refl
 
 -- the atom of a literal that is true is as its sign says
 pub has_atom-literal : (l : Literal) (s : List Bool) → in_literal l s ≡ true

@@ -16,11 +16,12 @@ use Rattle.hv_indexes.specs.Implied.{IsPair}
 use Rattle.hv_propagation.specs.Marks.{known, over, Agrees, mark_for}
 use Rattle.hv_propagation.specs.Trail.{Grows, Knowledge, marks_of, written}
 use Rattle.hv_propagation.specs.Units.{IsSettled, value_of, IsConcluded}
-use Rattle.hv_propagation.proofs.Chasing.{followed_same, kept_beyond, true_at, written_or}
+use Rattle.hv_propagation.proofs.Chasing.{followed_same, kept_beyond, true_at}
+use Rattle.hv_propagation.specs.Working.Laws.{written_or, known-set_same}
 use Rattle.hv_propagation.proofs.Chasing.{kept_earlier}
 use Rattle.hv_propagation.proofs.Marked.{value_false, value_none}
 use Rattle.hv_propagation.proofs.Rounds.{never}
-use Rattle.hv_propagation.proofs.Trailed.{known-set_same, length-marks}
+use Rattle.hv_propagation.proofs.Trailed.{length-marks}
 
 -- one literal of two is false, so what the clause says is that the other one is true
 pub pair_followed : (e : List ℕ) (old new : Knowledge) (own other : Literal) (clause : List Literal)

@@ -13,7 +13,8 @@ use Rattle.hv_propagation.specs.Units.{value_of, IsConcluded}
 use Rattle.hv_propagation.proofs.Holding.{opposite_is}
 use Rattle.hv_propagation.proofs.Marked.{agrees_write, extends_same, extends_write}
 use Rattle.hv_propagation.proofs.Marked.{has_atom-literal, value_false, value_from_opposite}
-use Rattle.hv_propagation.proofs.Marked.{value_marked, value_none, value_open}
+use Rattle.hv_propagation.proofs.Marked.{value_none, value_open}
+use Rattle.hv_propagation.specs.Working.Laws.{value_marked}
 use Rattle.hv_propagation.proofs.Rounds.{conclude_same, never}
 
 -- one mark more, at the atom of a literal

@@ -21,7 +21,7 @@ use Rattle.hv_sets.specs.Working.Cubes.{IsFirstUpto}
 use Rattle.hv_sets.proofs.Cubes.{atom_at}
 use Rattle.hv_propagation.specs.Marks.{known, mark_of, mark_for}
 use Rattle.hv_propagation.specs.Working.Marks.{unknown_in}
-use Rattle.hv_propagation.proofs.Marked.{known_past}
+use Rattle.hv_propagation.specs.Working.Laws.{known-set_other, known-set_same, known_past}
 use Rattle.hv_propagation.specs.Working.Trail.{AreJoined, trail_of}
 use Rattle.hv_propagation.specs.Trail.{Knowledge, marked, marks_of, written}
 use Rattle.hv_indexes.specs.Occurrences.{literal_of}
@@ -36,18 +36,6 @@ pub written-push : (ls : List Literal) (l : Literal) (m : List ℕ)
     → written (ls ++ l ∷ []) m ≡ slice_set (written ls m) l.atom (mark_for l.positive)
 written-push [] l m = refl
 written-push (x ∷ xs) l m = written-push xs l (slice_set m x.atom (mark_for x.positive))
-
-mark_says : (b : Bool) → mark_of (mark_for b) ≡ Some b
-mark_says true = refl
-mark_says false = refl
-
-pub known-set_same : (m : List ℕ) (p : ℕ) (b : Bool) → p < length m
-    → known (slice_set m p (mark_for b)) p ≡ Some b
-known-set_same m p b h = ap mark_of (get_or-set_same m p (mark_for b) 0 h) ∙ mark_says b
-
-pub known-set_other : (m : List ℕ) (p q : ℕ) (b : Bool) → (q ≡ p → ⊥)
-    → known (slice_set m p (mark_for b)) q ≡ known m q
-known-set_other m p q b h = ap mark_of (get_or-set_other m p q (mark_for b) 0 h)
 
 -- marks that say nothing
 pub length-zeros : (n : ℕ) → length (replicate {A = ℕ} n 0) ≡ n

@@ -18,10 +18,11 @@ use Rattle.hv_indexes.specs.Places.{clause_at}
 use Rattle.hv_propagation.specs.Marks.{known, over, Agrees, mark_for}
 use Rattle.hv_propagation.specs.Trail.{Knowledge, marked, written}
 use Rattle.hv_propagation.specs.Units.{first_of, value_of, AreSettled}
-use Rattle.hv_propagation.proofs.Chasing.{followed_none, kept_on}
-use Rattle.hv_propagation.proofs.Marked.{has_atom-over_none, has_atom-over_some, known_past}
+use Rattle.hv_propagation.proofs.Chasing.{followed_none}
+use Rattle.hv_propagation.specs.Working.Laws.{kept_on, known_past, known-set_other, known-set_same}
+use Rattle.hv_propagation.proofs.Marked.{has_atom-over_none, has_atom-over_some}
 use Rattle.hv_propagation.proofs.Marked.{known_within, length-over, through_some, value_some}
-use Rattle.hv_propagation.proofs.Trailed.{known-replicate, known-set_other, known-set_same}
+use Rattle.hv_propagation.proofs.Trailed.{known-replicate}
 use Rattle.hv_propagation.proofs.Trailed.{length-marked}
 
 pub untouched_nil : (ls : List Literal) → untouched [] ls ≡ ls

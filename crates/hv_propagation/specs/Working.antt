@@ -8,3 +8,4 @@ pub mod Buffers
 pub mod Chase
 pub mod FoundRun
 pub mod UnitRounds
+pub mod Laws

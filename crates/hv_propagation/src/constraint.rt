@@ -8,6 +8,7 @@ ghost use Rattle.hv_propagation.specs.Marks.{over};
 ghost use Rattle.hv_indexes.specs.Occurrences.{IsIndexOf};
 ghost use Rattle.hv_propagation.specs.Trail.{Grows, Knowledge, marks_of};
 ghost use Rattle.hv_propagation.specs.Units.{AreSettled};
+ghost use Rattle.hv_propagation.specs.Working.Laws as laws;
 
 use crate::chase;
 use crate::effect::ActionEffect;
@@ -42,12 +43,13 @@ pub trait Constraint {
     fn weight(&self, literal: Literal) -> usize
         requires { (atoms : ℕ) × is_over self.now atoms };
 
-    /// What it means that it tells nothing more than what comes from a place on.
-    fn laws(&self)
-        ensures ends { (k : Knowledge) (from : ℕ) → length k.trail ≤ from → left self.now k from →
-            settled self.now (marks_of k) }
-        ensures stays { (old new : Knowledge) (from : ℕ) → Grows old new → from ≤ length old.trail →
-            left self.now old from → left self.now new from };
+    // From the end of the trail on nothing comes: then it tells nothing more.
+    ghost left_ends: { (condition : Self) (k : Knowledge) (from : ℕ) → length k.trail ≤ from
+        → left condition k from → settled condition (marks_of k) };
+
+    // What it tells still comes from the same place on once the trail has grown.
+    ghost left_stays: { (condition : Self) (old new : Knowledge) (from : ℕ) → Grows old new
+        → from ≤ length old.trail → left condition old from → left condition new from };
 }
 
 /// Clauses, and where their literals stand.
@@ -76,5 +78,7 @@ impl Constraint for BareClauses<'_> {
         chase::weight(self.occurs, literal)
     }
 
-    fn laws(&self) {}
+    ghost left_ends = { λ bare. laws.settled_end [] bare.clauses.now };
+
+    ghost left_stays = { λ bare. laws.kept_grown [] bare.clauses.now };
 }

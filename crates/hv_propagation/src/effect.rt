@@ -8,7 +8,7 @@ ghost use Rattle.std.specs.Prelude.{◌≡◌, ◌<◌, ◌↔◌, [], ℕ, IsTr
 ghost use Rattle.std.specs.List.{Contains};
 ghost use Rattle.std.specs.List.Sorted.{IsStrictlyIncreasing};
 ghost use Rattle.hv_task.specs.Working.AtomList.{IsPlaceOf};
-ghost use Rattle.hv_task.specs.Strips.{atoms};
+ghost use Rattle.hv_task.specs.Strips.{IsTask, atoms};
 ghost use Rattle.hv_sets.specs.Query.{action_of};
 ghost use Rattle.hv_propagation.specs.Effect.{late, IsEffect};
 ghost use Rattle.hv_propagation.specs.Marks.{known};
@@ -57,6 +57,7 @@ impl<'a> ActionEffect<'a> {
         requires action { IfSome action (λ a. a < length task.now.actions) }
         ensures effect { IsEffect (action_of task.now action) result }
         ensures size { length result ≡ atoms task.now }
+        ensures task { IsTask task.now }
     {
         let atoms = task.atoms() as usize;
         match action {

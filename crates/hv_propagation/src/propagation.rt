@@ -90,7 +90,6 @@ pub fn close<C: Constraint>(constraint: &C, marks: &mut Assignment<'_>, from: us
     ensures left { result ≡ true → C.left constraint.now marks.new (length marks.new.trail) }
     ensures settled { result ≡ true → C.settled constraint.now (marks_of marks.new) }
 {
-    constraint.laws();
     follow(constraint, marks, from, Bound::End).is_some()
 }
 
@@ -168,7 +167,6 @@ fn assume<C: Constraint>(
     ensures left { C.left constraint.now marks.new (length marks.new.trail) }
     ensures end { bound ≡ Bounds.End → IsSome result }
 {
-    constraint.laws();
     let point = marks.len();
     marks.write(literal);
     match follow(constraint, marks, point, bound) {
@@ -198,7 +196,6 @@ pub fn settle<C: Constraint>(constraint: &C, marks: &mut Assignment<'_>, atom: u
     ensures grown { Grows marks.old marks.new }
     ensures left { C.left constraint.now marks.new (length marks.new.trail) }
 {
-    constraint.laws();
     if marks.read(atom).is_some() {
         return true;
     }
@@ -260,7 +257,6 @@ fn settle_within<C: Constraint>(
     ensures left { C.left constraint.now marks.new (length marks.new.trail) }
     ensures end { bound ≡ Bounds.End → IsSome result }
 {
-    constraint.laws();
     let Some(kept) = assume(constraint, marks, guess, bound) else {
         return None;
     };
@@ -284,7 +280,6 @@ pub(crate) fn settle_all<C: Constraint>(constraint: &C, marks: &mut Assignment<'
         (AllKnown (length marks.old.roots)) (marks_of marks.old) (marks_of marks.new) result }
     ensures grown { Grows marks.old marks.new }
 {
-    constraint.laws();
     for atom in 0..marks.atoms() as u32 {
         if !settle(constraint, marks, atom) {
             return false;
@@ -311,7 +306,6 @@ pub fn complete<C: Constraint>(
     ensures grown { Grows marks.old marks.new }
     ensures state { length state.new ≡ length state.old }
 {
-    constraint.laws();
     match how {
         Completion::Fill(value) => {
             marks.fill(value, state);

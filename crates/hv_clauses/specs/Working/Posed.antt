@@ -2,7 +2,7 @@
 -- action.
 use Rattle.std.specs.Prelude.{◌≡◌, ◌<◌, ◌++◌, ℕ, Bool, true, List, Option, IfSome, length}
 use Rattle.std.specs.List.{All}
-use Rattle.hv_task.specs.Strips.{Strips, atoms}
+use Rattle.hv_task.specs.Strips.{IsTask, Strips, atoms}
 use Rattle.hv_sets.specs.declared.literal.Literal.{Literal}
 use Rattle.hv_sets.specs.declared.operand.Which.{Which}
 use Rattle.hv_sets.specs.declared.query.Query.{Query}
@@ -49,9 +49,11 @@ Applies p state = may_apply (action_of p.task p.query.action) state ≡ true
 abbrev pub InEach : ProblemState → List Bool → Type 0
 InEach p state = InAll p.task (formulas p) p.effect p.query.positive state
 
--- the query can be asked of the store: the sets that it names are there, the formulas are over the
--- atoms of the task, and the effect is that of its action, which is one of the task
+-- the query can be asked of the store: the task is one, the sets that it names are there, the
+-- formulas are over the atoms of the task, and the effect is that of its action, which is one of
+-- the task
 pub record IsPosed (p : ProblemState) : Type 0 where
+  pub task : IsTask p.task
   pub named : All (λ o. IsNamed (length p.store) o.which) (p.query.positive ++ p.query.negative)
   pub over : AreOver p.store (atoms p.task)
   pub among : IfSome p.query.action (λ a. a < length p.task.actions)

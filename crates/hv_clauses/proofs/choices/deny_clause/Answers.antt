@@ -1,5 +1,5 @@
-use Rattle.std.proofs.Common.{◌≡◌, ℕ, zero, suc, ◌<◌, ◌∙◌, Bool, true, List, Some, [], ◌∷◌, ap, arith}
-use Rattle.std.proofs.Common.{get_or, refl, subst, sym}
+use Rattle.std.proofs.Common.{◌≡◌, ℕ, zero, suc, ◌<◌, ◌∙◌, Bool, true, List, Some, [], ◌∷◌, ap}
+use Rattle.std.proofs.Common.{arith, get_or, refl, subst, sym}
 use Rattle.std.specs.List.{slice_get}
 use Rattle.std.proofs.lemmas.Option.{get_or_from_slice_get, slice_get_within}
 use Rattle.hv_task.specs.State.{AreBelow}
@@ -28,12 +28,10 @@ place_below : (task : Strips) (sizes : ℕ → ℕ) (which : Which) (place : ℕ
     → place < atoms task
 place_below task sizes which place less is = subst (λ w. place < clauses_of task sizes w) is less
 
-pub overflow_cast-place : goal.overflow_cast-place
-overflow_cast-place g c =
+pub start_literal-literal-requires : goal.start_literal-literal-requires
+start_literal-literal-requires g c =
     let p = c.args.problem.now in
-    let less = place_below p.task (sizes p) c.args.operand.which c.args.place c.requires.place
-    c.in-Start.is in
-    omega (arith, less, c.atoms-atoms.ensures.task.few_atoms)
+    place_below p.task (sizes p) c.args.operand.which c.args.place c.requires.place c.in-Start.is
 
 pub returns-in-Start-clause-denied : goal.returns-in-Start-clause-denied
 returns-in-Start-clause-denied g c =

@@ -3,6 +3,7 @@ use Rattle.std.proofs.Common.{subst}
 use Rattle.hv_propagation.specs.Chase.{IsFollowed}
 use Rattle.hv_propagation.specs.Completion.{Completes}
 use Rattle.hv_clauses.specs.Working.Posed.{InEach}
+use Rattle.hv_clauses.specs.Working.Laws.{all_stay}
 use Rattle.hv_clauses.specs.Working.Problem.{AreEachSettled, AreLeft}
 use Rattle.hv_propagation.specs.Trail.{Knowledge, marks_of}
 use Rattle.hv_propagation.specs.Units.{IsConcluded}
@@ -37,8 +38,9 @@ close-requires-clause-over g c =
 pub close-requires-clause-left : goal.close-requires-clause-left
 close-requires-clause-left g c =
     subst (λ n. AreLeft c.args.problem.now c.deny_all.new.marks n) (sym c.len-point.ensures.len)
-    (c.laws.ensures.stays c.args.marks.now c.deny_all.new.marks (length c.args.marks.now.trail)
-    c.if-not-deny_all.ensures.grown (omega arith) c.requires.rooted.left)
+    (all_stay c.args.problem.now c.args.marks.now c.deny_all.new.marks
+    (length c.args.marks.now.trail) c.if-not-deny_all.ensures.grown (omega arith)
+    c.requires.rooted.left)
 
 pub returns-then-not-close-clause-met : goal.returns-then-not-close-clause-met
 returns-then-not-close-clause-met g c =

@@ -1,4 +1,5 @@
 use Rattle.std.proofs.Common.{◌≡◌, ◌∙◌, true, false, length, refl, sym, ap, arith, subst}
+use Rattle.hv_clauses.specs.Working.Laws.{all_stay}
 use Rattle.hv_clauses.specs.Working.Problem.{AreLeft}
 use Rattle.hv_propagation.specs.Trail.{marks_of}
 use Rattle.hv_propagation.proofs.Chasing.{grown_by, grows_then}
@@ -14,8 +15,9 @@ pub close-requires-clause-left : goal.close-requires-clause-left
 close-requires-clause-left g c =
     let p = c.args.problem.now in
     subst (λ n. AreLeft p c.deny_clause.new.marks n) (sym c.len-point.ensures.len)
-    (c.laws.ensures.stays c.args.marks.now c.deny_clause.new.marks (length c.args.marks.now.trail)
-    c.if-not-deny_clause.ensures.grown (omega arith) c.requires.left)
+    (all_stay c.args.problem.now c.args.marks.now c.deny_clause.new.marks
+    (length c.args.marks.now.trail) c.if-not-deny_clause.ensures.grown (omega arith)
+    c.requires.left)
 
 pub returns-then-not-deny_clause-clause-follows : goal.returns-then-not-deny_clause-clause-follows
 returns-then-not-deny_clause-clause-follows g c = λ state size inside misses agrees.

@@ -1,7 +1,8 @@
 use Rattle.std.proofs.Common.{◌∙◌, ◌+◌, true, false, length, refl, ap, arith}
 use Rattle.hv_clauses.specs.Working.Posed.{InEach}
 use Rattle.hv_propagation.proofs.Chasing.{followed_none, grown_by, longer}
-use Rattle.hv_clauses.proofs.Problems.{all_seen, all_stay, operand_followed, operand_left}
+use Rattle.hv_clauses.proofs.Problems.{all_seen, operand_followed, operand_left}
+use Rattle.hv_clauses.specs.Working.Laws.{all_stay}
 use Rattle.hv_clauses.proofs.Problems.{operand_seen}
 use Rattle.hv_clauses.proofs.problem.visit_each.Goals as goal
 

@@ -6,7 +6,7 @@ use Rattle.hv_clauses.specs.Working.Posed.{InEach, formulas}
 use Rattle.hv_clauses.specs.Working.Problem.{IsLeftOf}
 use Rattle.hv_propagation.proofs.Chasing.{followed_none, followed_then, grown_by, longer, read_on}
 use Rattle.hv_clauses.proofs.Owned.{owners_left}
-use Rattle.hv_clauses.proofs.Problems.{all_stay, left_grown}
+use Rattle.hv_clauses.specs.Working.Laws.{all_stay, left_grown}
 use Rattle.hv_clauses.proofs.problem.visit_owners.Goals as goal
 
 pub row-row-requires : goal.row-row-requires

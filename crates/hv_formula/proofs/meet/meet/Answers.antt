@@ -12,13 +12,13 @@ pub meet_from-requires-clause-marks : goal.meet_from-requires-clause-marks
 meet_from-requires-clause-marks g c =
     ap (λ (k : Knowledge). length k.roots) c.over-marks.ensures
     ∙ (length-marked c.atoms-atoms.result c.in-Some.forced.now
-    ∙ (c.atoms-atoms.ensures ∙ sym c.requires.atoms))
+    ∙ (c.atoms-atoms.ensures.atoms ∙ sym c.requires.atoms))
 
 pub meet_from-requires-clause-settled : goal.meet_from-requires-clause-settled
 meet_from-requires-clause-settled g c =
     let forced = c.in-Some.forced.now in
     let clauses = c.bare-bare.result.clauses.now in
-    let at = subst (λ n. AreForced n clauses forced) (sym c.atoms-atoms.ensures)
+    let at = subst (λ n. AreForced n clauses forced) (sym c.atoms-atoms.ensures.atoms)
     (subst (λ cs. AreForced c.args.set.now.atoms cs forced) (sym c.bare-bare.ensures.clauses)
     c.in-Some.ensures) in
     subst (λ (k : Knowledge). AreSettled [] clauses (marks_of k)) (sym c.over-marks.ensures)
@@ -28,7 +28,7 @@ pub meet_from-requires-clause-follows : goal.meet_from-requires-clause-follows
 meet_from-requires-clause-follows g c = λ state size holds.
     let forced = c.in-Some.forced.now in
     let clauses = c.bare-bare.result.clauses.now in
-    let at = subst (λ n. AreForced n clauses forced) (sym c.atoms-atoms.ensures)
+    let at = subst (λ n. AreForced n clauses forced) (sym c.atoms-atoms.ensures.atoms)
     (subst (λ cs. AreForced c.args.set.now.atoms cs forced) (sym c.bare-bare.ensures.clauses)
     c.in-Some.ensures) in
     let wide = ap (λ (k : Knowledge). length k.roots) c.over-marks.ensures
@@ -38,7 +38,7 @@ meet_from-requires-clause-follows g c = λ state size holds.
 
 pub over-marks-requires-clause-few : goal.over-marks-requires-clause-few
 over-marks-requires-clause-few g c =
-    let atoms = c.atoms-atoms.ensures in
+    let atoms = c.atoms-atoms.ensures.atoms in
     let few = c.bare-bare.ensures.few in
     omega (arith, atoms, few)
 

@@ -2,7 +2,8 @@ use Rattle.std.proofs.Common.{◌∙◌, [], length, sym, ap, arith, refl, subst
 use Rattle.hv_sets.specs.Cubes.{SpeakBelow}
 use Rattle.hv_propagation.specs.Clauses.{AreClauses}
 use Rattle.hv_formula.specs.Kinded.{CompletesClauses}
-use Rattle.hv_propagation.proofs.Chasing.{kept_grown, kept_settled}
+use Rattle.hv_propagation.proofs.Chasing.{kept_settled}
+use Rattle.hv_propagation.specs.Working.Laws.{kept_grown}
 use Rattle.hv_propagation.proofs.Covered.{forced_cube}
 use Rattle.hv_formula.proofs.Kinded.{completes}
 use Rattle.hv_formula.proofs.Meeting.{meets_completed, meets_never, meets_unforced}

@@ -1,7 +1,8 @@
 use Rattle.std.proofs.Common.{◌≡◌, ℕ, ◌<◌, length, refl, ap, arith, below_more}
 use Rattle.hv_propagation.specs.Chase.{IsKept}
 use Rattle.hv_indexes.specs.Places.{clause_at}
-use Rattle.hv_propagation.proofs.Chasing.{clause_below, clause_followed, clause_kept, kept_on}
+use Rattle.hv_propagation.proofs.Chasing.{clause_below, clause_followed, clause_kept}
+use Rattle.hv_propagation.specs.Working.Laws.{kept_on}
 use Rattle.hv_propagation.proofs.Chasing.{longer}
 use Rattle.hv_propagation.proofs.chase.start.Goals as goal
 

@@ -10,7 +10,8 @@ use Rattle.hv_indexes.specs.Places.{clause_at}
 use Rattle.hv_propagation.specs.Trail.{marks_of}
 use Rattle.hv_propagation.specs.Units.{value_of}
 use Rattle.hv_propagation.proofs.PartnerEntries.{kept_sooner, kept_true}
-use Rattle.hv_propagation.proofs.Chasing.{grown_by, kept_beyond, kept_grown, kept_next, longer}
+use Rattle.hv_propagation.proofs.Chasing.{grown_by, kept_beyond, kept_next, longer}
+use Rattle.hv_propagation.specs.Working.Laws.{kept_grown}
 use Rattle.hv_propagation.proofs.Chasing.{read_on}
 use Rattle.hv_propagation.proofs.Rounds.{never}
 use Rattle.hv_propagation.proofs.chase.visit.Goals as goal

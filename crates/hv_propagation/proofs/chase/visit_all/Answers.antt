@@ -8,7 +8,8 @@ use Rattle.hv_indexes.specs.Places.{clause_at}
 use Rattle.hv_propagation.specs.Clauses.{AreClauses}
 use Rattle.hv_propagation.specs.Marks.{over}
 use Rattle.hv_propagation.specs.Trail.{marks_of}
-use Rattle.hv_propagation.proofs.Chasing.{followed_none, followed_then, kept_on, longer}
+use Rattle.hv_propagation.proofs.Chasing.{followed_none, followed_then, longer}
+use Rattle.hv_propagation.specs.Working.Laws.{kept_on}
 use Rattle.hv_propagation.proofs.Marked.{value_extends}
 use Rattle.hv_propagation.proofs.chase.visit_all.Goals as goal
 

@@ -11,7 +11,8 @@ use Rattle.hv_propagation.specs.Chase.{IsFollowed, IsKept}
 use Rattle.hv_propagation.specs.Marks.{known, over}
 use Rattle.hv_propagation.specs.Trail.{Knowledge, marks_of}
 use Rattle.hv_propagation.specs.Working.FoundRun.{AreKnownEntries}
-use Rattle.hv_propagation.proofs.Chasing.{followed_none, followed_then, kept_on, longer}
+use Rattle.hv_propagation.proofs.Chasing.{followed_none, followed_then, longer}
+use Rattle.hv_propagation.specs.Working.Laws.{kept_on}
 use Rattle.hv_propagation.proofs.FoundRuns.{entry_settled}
 use Rattle.hv_propagation.proofs.chase.visit_in_runs.Goals as goal
 

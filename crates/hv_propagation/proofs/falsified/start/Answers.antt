@@ -5,7 +5,8 @@ use Rattle.hv_propagation.specs.Forced.{AreForced}
 use Rattle.hv_indexes.specs.Places.{clause_at}
 use Rattle.hv_propagation.specs.Clauses.{AreClauses}
 use Rattle.hv_propagation.specs.Marks.{over}
-use Rattle.hv_propagation.proofs.Chasing.{followed_then, kept_on}
+use Rattle.hv_propagation.proofs.Chasing.{followed_then}
+use Rattle.hv_propagation.specs.Working.Laws.{kept_on}
 use Rattle.hv_propagation.proofs.Untouched.{kept_either, turned_kept}
 use Rattle.hv_propagation.proofs.falsified.start.Goals as goal
 

@@ -9,7 +9,8 @@ use Rattle.hv_indexes.specs.Places.{clause_at}
 use Rattle.hv_propagation.specs.Clauses.{AreClauses}
 use Rattle.hv_propagation.specs.Marks.{known, over}
 use Rattle.hv_indexes.specs.Signed.{StandsAs}
-use Rattle.hv_propagation.proofs.Chasing.{followed_then, kept_on}
+use Rattle.hv_propagation.proofs.Chasing.{followed_then}
+use Rattle.hv_propagation.specs.Working.Laws.{kept_on}
 use Rattle.hv_propagation.proofs.falsified.start_value.Goals as goal
 
 pub start_literal-requires-clause-clauses : goal.start_literal-requires-clause-clauses

@@ -30,7 +30,8 @@ pub follow-requires-clause-left : goal.follow-requires-clause-left
 follow-requires-clause-left g c =
     let h = c.len-point.ensures.len in
     subst (λ n. g.C.Constraint.left c.args.constraint.now c.write.new.self n) (sym h)
-    (c.laws.ensures.stays c.args.marks.now c.write.new.self (length c.args.marks.now.trail)
+    (g.met.C.Constraint.left_stays c.args.constraint.now c.args.marks.now c.write.new.self
+    (length c.args.marks.now.trail)
     (grown_by_one c.args.marks.now c.write.new.self c.args.literal c.write.ensures c.requires.atom
     c.requires.open) (omega arith) c.requires.left)
 
@@ -48,8 +49,8 @@ returns-then-place-len-clause-assumed g c =
     (length-marks c.follow.new.marks ∙ (ap length followed.roots
     ∙ sym (length-marks c.write.new.self)))
     followed.grows
-    (c.laws.ensures.ends c.follow.new.marks c.in-Some.place (omega arith)
-    c.in-Some.ensures.left.1)
+    (g.met.C.Constraint.left_ends c.args.constraint.now c.follow.new.marks c.in-Some.place
+    (omega arith) c.in-Some.ensures.left.1)
 
 pub returns-then-place-len-clause-grown : goal.returns-then-place-len-clause-grown
 returns-then-place-len-clause-grown g c =
@@ -73,7 +74,8 @@ returns-in-None-clause-assumed g c =
     (assumed_broken P S c.args.literal.atom c.args.literal.positive
     (marks_of k) (marks_of c.write.new.self) (marks_of c.follow.new.marks) c.requires.open
     m.size m.here m.others
-    (c.laws.ensures.ends k (length k.trail) (omega arith) c.requires.left)
+    (g.met.C.Constraint.left_ends c.args.constraint.now k (length k.trail) (omega arith)
+    c.requires.left)
     (λ state long holds agrees. c.in-None.ensures.followed.broken refl state
     (long ∙ length-marks c.write.new.self) holds agrees))
 

@@ -40,7 +40,8 @@ returns-in-Fill-clause-completed g c =
     completed_filled P S c.args.how c.in-Fill.value c.in-Fill.is (marks_of k) (marks_of k)
     c.fill.new.state refl
     (subst (λ n. Completes c.args.how P S n) (sym (length-marks k)) c.requires.completes)
-    (c.laws.ensures.ends k (length k.trail) (omega arith) c.requires.left) c.fill.ensures
+    (g.met.C.Constraint.left_ends c.args.constraint.now k (length k.trail) (omega arith)
+    c.requires.left) c.fill.ensures
 
 pub returns-in-Fill-clause-state : goal.returns-in-Fill-clause-state
 returns-in-Fill-clause-state g c =

@@ -13,7 +13,8 @@ loop-atom-init g c =
     record {
       tried = tried_none (g.C.Constraint.admits c.args.constraint.now)
           (g.C.Constraint.settled c.args.constraint.now) (marks_of k)
-          (c.laws.ensures.ends k (length k.trail) (omega arith) c.requires.left);
+          (g.met.C.Constraint.left_ends c.args.constraint.now k (length k.trail) (omega arith)
+          c.requires.left);
       grown = grows_same k;
       left = c.requires.left;
     }

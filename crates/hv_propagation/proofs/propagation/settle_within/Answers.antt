@@ -75,7 +75,8 @@ returns-clause-tried g c =
     (λ result assumed. tried_both P S c.args.guess.atom c.args.guess.positive
     (marks_of k) (marks_of c.assume.new.marks) (marks_of c.assume-2.new.marks) result
     (subst (λ n. Completes C.Try P S n) (sym (length-marks k)) c.requires.completes)
-    (c.laws.ensures.ends k (length k.trail) (omega arith) c.requires.left)
+    (g.met.C.Constraint.left_ends c.args.constraint.now k (length k.trail) (omega arith)
+    c.requires.left)
     (subst (λ b. IsAssumed P S c.args.guess.atom c.args.guess.positive (marks_of k)
     (marks_of c.assume.new.marks) b) c.if-kept.false c.in-Some.ensures.assumed)
     assumed)

@@ -20,5 +20,4 @@ returns-clause-completes g c =
     }) how g.K.ClauseKind.is_of
     (subst (λ x. CompletesClauses x g.K.ClauseKind.is_of) (sym c.completion.ensures.how)
     g.met.K.ClauseKind.completes)
-    g.met.K.ClauseKind.short_are_of c.atoms-atoms.ensures.task.goal c.completion.ensures.kinded
-    c.self.invariant.0)
+    g.met.K.ClauseKind.short_are_of c.completion.ensures.kinded c.self.invariant.0)

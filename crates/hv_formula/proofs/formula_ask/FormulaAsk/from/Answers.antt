@@ -16,5 +16,5 @@ returns-clause-stands g c =
     (sym c.new-counts.ensures.items)
     (asked_first f k c.args.roots c.args.broken
     (c.in_ok-marks.ensures ∙ ap (λ n. let m : Knowledge = record
-    { roots = marked n c.args.roots; trail = [] } in m) c.atoms.ensures)
+    { roots = marked n c.args.roots; trail = [] } in m) c.atoms.ensures.atoms)
     c.requires.never c.requires.forced)))

@@ -22,7 +22,7 @@ complete_in-requires-clause-size g c =
     ap length c.if-not-close.ensures.followed.roots ∙ c.requires.stands.size
 
 pub complete_in-requires-clause-state : goal.complete_in-requires-clause-state
-complete_in-requires-clause-state g c = c.in_ok-reserve.ensures.room.state ∙ c.atoms.ensures
+complete_in-requires-clause-state g c = c.in_ok-reserve.ensures.room.state ∙ c.atoms.ensures.atoms
 
 pub returns-clause-lengths : goal.returns-clause-lengths
 returns-clause-lengths g c =
@@ -82,7 +82,7 @@ returns-clause-meets g c =
     c.if-not-close.ensures.left in
     asked_meets q.set.now k (length k.trail) q.starts.items q.literals.items q.counts.items
     c.complete_in.new.state c.complete_in.result b
-    (c.complete_in.ensures.state ∙ (c.in_ok-reserve.ensures.room.state ∙ c.atoms.ensures))
+    (c.complete_in.ensures.state ∙ (c.in_ok-reserve.ensures.room.state ∙ c.atoms.ensures.atoms))
     c.complete_in.ensures.completed
 
 pub returns-clause-stands : goal.returns-clause-stands

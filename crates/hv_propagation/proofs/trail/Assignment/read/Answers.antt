@@ -1,7 +1,7 @@
 use Rattle.std.proofs.Common.{◌∙◌, ◌<◌, length, sym, ap, arith}
 use Rattle.std.proofs.lemmas.List.{get_or_default}
 use Rattle.hv_propagation.specs.Marks.{known}
-use Rattle.hv_propagation.proofs.Marked.{known_past}
+use Rattle.hv_propagation.specs.Working.Laws.{known_past}
 use Rattle.hv_propagation.specs.Working.Buffers.{places_in, queue_in}
 use Rattle.hv_propagation.specs.Trail.{Knowledge, marked, marks_of}
 use Rattle.hv_propagation.specs.Working.Trail.{trail_of}
