@@ -11,16 +11,15 @@ use Rattle.std.proofs.lemmas.Option.{same_Some, slice_get-get_or, slice_get-map,
 use Rattle.std.specs.List.{Contains, list_all}
 use Rattle.std.specs.List.Sorted.{IsStrictlyIncreasing}
 use Rattle.std.specs.Option.{option_map}
-use Rattle.hv_task.specs.declared.action.Action.{Action}
 use Rattle.hv_task.specs.State.{names_atom}
 use Rattle.hv_task.specs.Strips.{Strips, atoms}
 use Rattle.hv_task.proofs.Places.{names_atom-Decides}
 use Rattle.hv_task.proofs.Rising.{rises_upto}
-use Rattle.hv_sets.specs.Query.{action_of, asked, in_operand, in_which, is_clash, may_apply}
+use Rattle.hv_sets.specs.Query.{action_of, in_operand, in_which, is_clash, may_apply}
 use Rattle.hv_sets.specs.declared.operand.Operand.{Operand}
 use Rattle.hv_sets.specs.declared.operand.Which.{Which}
 use Rattle.hv_sets.specs.declared.query.Query.{Query}
-use Rattle.hv_explicit.proofs.Anchored.{passes_at}
+use Rattle.hv_explicit.proofs.Anchored.{asked_before, passes_at}
 use Rattle.hv_lines.specs.Meaning.{acts_of}
 use Rattle.hv_lines.specs.Queries.{PassesBudget, actions_below, asked_actions, has_of, queries_of}
 use Rattle.hv_lines.specs.Queries.{query_of}
@@ -139,14 +138,6 @@ module _ (lines : List Line) (acts : ℕ) where
                 let longer = length-append (actions_below lines acts n) (Some n ∷ []) in
                 let here = last.0 in absurd (omega (arith, here, less, within, longer))
           ]
-
--- the state before the action is asked about
-asked_before : (action : Option Action) (after : Bool) (state : List Bool) → after ≡ false
-    → asked action after state ≡ state
-asked_before None true state e = refl
-asked_before None false state e = refl
-asked_before (Some action) true state e = let f : true ≡ false = e in absurd cc
-asked_before (Some action) false state e = refl
 
 -- in a counterexample the action is applicable, and it is in each set that is asked about before
 pub clash_in : (task : Strips) (sets : ℕ → List Bool → Bool) (query : Query) (o : Operand)

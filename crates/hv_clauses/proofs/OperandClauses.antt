@@ -22,23 +22,13 @@ use Rattle.hv_sets.specs.Cost.{clauses_of}
 use Rattle.hv_sets.specs.Cubes.{SpeakBelow}
 use Rattle.hv_sets.specs.Query.{in_which}
 use Rattle.hv_sets.specs.Truth.{in_clause, in_clauses, is_same}
+use Rattle.hv_sets.proofs.Truths.{literal_from_same, same_from_literal}
 use Rattle.hv_indexes.specs.Places.{clause_at}
 use Rattle.hv_propagation.specs.Clauses.{AreClauses}
 use Rattle.hv_clauses.specs.Store.{tests_of, sizes_of}
 use Rattle.hv_clauses.specs.Working.Operands.{clauses_in, clauses_of_state, unit}
 use Rattle.hv_propagation.specs.Marks.{over}
 use Rattle.hv_propagation.proofs.Marked.{length-over}
-
--- whether a literal of an atom is true tells the flag of the atom
-same_from_literal : (named flag : Bool) → cond named flag (not flag) ≡ true → named ≡ flag
-same_from_literal true flag e = sym e
-same_from_literal false true e = let f : false ≡ true = e in absurd cc
-same_from_literal false false e = refl
-
-literal_from_same : (named flag : Bool) → named ≡ flag → cond named flag (not flag) ≡ true
-literal_from_same true flag e = sym e
-literal_from_same false true e = let f : false ≡ true = e in absurd cc
-literal_from_same false false e = refl
 
 alone_and : (b : Bool) → ((b || false) && true) ≡ b
 alone_and true = refl

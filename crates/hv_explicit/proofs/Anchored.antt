@@ -45,7 +45,7 @@ passes_at p xs x all c = by (p x) refl
         let clash : true ≡ false = sym all ∙ none in absurd cc
 
 -- the state before the action is asked about
-asked_before : (action : Option Action) (after : Bool) (state : List Bool) → after ≡ false
+pub asked_before : (action : Option Action) (after : Bool) (state : List Bool) → after ≡ false
     → asked action after state ≡ state
 asked_before None true state e = refl
 asked_before None false state e = refl

@@ -10,6 +10,7 @@ use Rattle.hv_task.specs.State.{has_atom}
 use Rattle.hv_sets.specs.declared.literal.Literal.{Literal}
 use Rattle.hv_sets.specs.Truth.{in_clauses, in_cube, in_literal}
 use Rattle.hv_sets.specs.Walks.{Meets}
+use Rattle.hv_sets.proofs.Truths.{in_push}
 use Rattle.hv_formula.specs.Clausal.{FormulaState, in_formula}
 use Rattle.hv_propagation.specs.Marks.{known, over, Agrees}
 use Rattle.hv_formula.specs.Working.Asking.{FollowsFrom, FollowsFromEach, IsAskedAlong}
@@ -39,20 +40,6 @@ pushed P points p before here i less =
           subst (λ x. P i x) (sym (get_or_push points p 0 i (sym at)))
           (subst (λ j. P j p) (sym at) here)
     ]
-
-in_push : (ls : List Literal) (l : Literal) (s : List Bool)
-    → in_cube (ls ++ l ∷ []) s ≡ (in_cube ls s && in_literal l s)
-in_push [] l s = by (in_literal l s)
-  where
-    by : (b : Bool) → (b && true) ≡ b
-    by true = refl
-    by false = refl
-in_push (x ∷ xs) l s = ap (λ b. in_literal x s && b) (in_push xs l s)
-    ∙ assoc (in_literal x s) (in_cube xs s) (in_literal l s)
-  where
-    assoc : (a b c : Bool) → (a && (b && c)) ≡ ((a && b) && c)
-    assoc true b c = refl
-    assoc false b c = refl
 
 literal_from : (l : Literal) (s : List Bool) → has_atom s l.atom ≡ l.positive
     → in_literal l s ≡ true
