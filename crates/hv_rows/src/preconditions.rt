@@ -9,8 +9,8 @@ use crate::entering::{empty_rows, enter};
 use hv_task::Task;
 use std::alloc::{AllocError, Global};
 
-/// The actions of the task, each once: in the row of an atom of its precondition, or in the last
-/// row, past the atoms, where it has none.
+/// The actions of the task in a row for each atom and one past them: each is in the row of an atom
+/// of its precondition, or in the last row.
 pub fn action_rows(alloc: Global, task: &Task) -> Result<Vec<Vec<u32>>, AllocError>
     ensures { IfOk result (λ rows. AreActionRows task.now rows.items) }
 {
