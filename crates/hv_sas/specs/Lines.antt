@@ -41,21 +41,24 @@ metric_of l =
 abbrev pub name_of : List ℕ → Result (List ℕ) SasRefusal
 name_of l = cond (nat_le (length l) 1024) (Ok l) (Err (R.Limit L.Name))
 
--- `-1`; a decimal isn't supported
+-- a layer other than `-1`: a decimal isn't supported
 abbrev pub layer_in : Option ℕ → Result (Unit {0}) SasRefusal
 layer_in None = Err (R.Place K.Variable)
 layer_in (Some n) = Err (R.Unsupported W.Layer)
 
+-- `-1`
 abbrev pub layer_of : List ℕ → Result (Unit {0}) SasRefusal
 layer_of l = cond (bytes_eq l (codes "-1")) (Ok tt) (layer_in (decimal_of l))
 
--- a number of values, at least 1, which with those of the earlier variables are up to 65,535
+-- a number of values, if one was read: at least 1, and with those of the earlier variables up to
+-- 65,535
 abbrev pub values_within : ℕ → Option ℕ → Result ℕ SasRefusal
 values_within earlier None = Err (R.Place K.Variable)
 values_within earlier (Some n) =
     cond (nat_eq n 0) (Err (R.Place K.Variable))
     (cond (nat_le (earlier + n) 65535) (Ok n) (Err (R.Limit L.Values)))
 
+-- a line that says how many values a variable has, after so many of the earlier ones
 abbrev pub values_of : ℕ → List ℕ → Result ℕ SasRefusal
 values_of earlier l = values_within earlier (decimal_of l)
 
@@ -72,6 +75,7 @@ abbrev pub value_in : ℕ → Option ℕ → Result ℕ SasRefusal
 value_in range None = Err (R.Place K.State)
 value_in range (Some n) = cond (nat_lt n range) (Ok n) (Err (R.Place K.State))
 
+-- the value of the initial state on a line, for the variable v
 abbrev pub start_value : List SasVariable → ℕ → List ℕ → Result ℕ SasRefusal
 start_value variables v l = value_in (range_at variables v) (decimal_of l)
 
@@ -81,19 +85,21 @@ pair_of None b = None
 pair_of (Some a) None = None
 pair_of (Some a) (Some b) = Some (a, b)
 
+-- the two decimals that just two fields have
 abbrev pub two_of : List (List ℕ) → Option (ℕ × ℕ)
 two_of [] = None
 two_of (a ∷ []) = None
 two_of (a ∷ b ∷ []) = pair_of (decimal_of a) (decimal_of b)
 two_of (a ∷ b ∷ c ∷ fields) = None
 
--- `VAR VALUE`, both in range
+-- the fact of a variable and a value, if both were read and are in range
 abbrev pub fact_in : SasKind → List SasVariable → Option (ℕ × ℕ) → Result Fact SasRefusal
 fact_in kind variables None = Err (R.Place kind)
 fact_in kind variables (Some p) =
     cond (nat_lt p.1 (range_at variables p.0)) (Ok (record { var = p.0; value = p.1 }))
     (Err (R.Place kind))
 
+-- `VAR VALUE`, both in range
 abbrev pub fact_of : SasKind → List SasVariable → List ℕ → Result Fact SasRefusal
 fact_of kind variables l = fact_in kind variables (two_of (cut_fields l))
 
