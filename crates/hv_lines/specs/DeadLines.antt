@@ -29,10 +29,10 @@ rule_by false = W.Rg
 abbrev pub empty_note : Note
 empty_note = record { set = 0; line = 0 }
 
--- The seven lines which show that the newest set is dead, where that of the note `union` is: no
--- action leads out of it but into the union, and none of its states is a goal state. Where the step
--- goes forwards, the set is a formula itself; otherwise it is the negation of the formula `set`,
--- and the step goes backwards from this. The first statement is line k.
+-- The seven lines which show that the newest set, `dead`, is dead, where that of the note `union`
+-- is: no action leads out of it but into the union, and none of its states is a goal state. Where
+-- the step goes forwards, `dead` is the formula `set` itself; otherwise it is the negation of that
+-- formula, and the step goes backwards from the formula. The first statement is line k.
 abbrev pub dead_lines : Bool → ℕ → ℕ → Note → ℕ → List Line
 dead_lines forwards set dead union k =
     L.Expr (dead + 1) (step_by forwards set)
