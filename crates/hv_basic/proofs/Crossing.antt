@@ -35,8 +35,8 @@ use Rattle.hv_basic.specs.Working.Candidates.{HaveAllClashes}
 use Rattle.hv_basic.specs.Working.Excluded.{has_value}
 use Rattle.hv_basic.specs.Working.Framed.{AreCrossing, AreTurning, IsFramed, CanTurn, sign_to}
 
--- an atom's flag after the action (s), by its flag before it (h), where the action adds the atom (a)
--- or deletes it (d)
+-- an atom's flag after the action (s), by its flag before it (h), where the action adds the atom
+-- (a) or deletes it (d)
 out_true : (a d h s : Bool) → s ≡ (a || (not d && h)) → d ≡ false → h ≡ true → s ≡ true
 out_true true d h s e f g = e
 out_true false d h s e f g = e ∙ (ap (λ x. not x && h) f ∙ g)
@@ -115,8 +115,8 @@ module _ (into : Bool) (action : Action) (state : List Bool) where
   abbrev to : List Bool
   to = asked (Some action) (not into) state
 
-  -- a clause that is true at the one time, by a literal that the action doesn't turn, is true at the
-  -- other
+  -- a clause that is true at the one time, by a literal that the action doesn't turn, is true at
+  -- the other
   clause_kept : (clause : List Literal)
       → ((l : Literal) → Contains clause l → CanTurn into l action → ⊥)
       → in_clause clause from ≡ true → in_clause clause to ≡ true

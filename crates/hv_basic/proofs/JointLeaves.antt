@@ -1,4 +1,5 @@
--- The leaves of an intersection that are all formulas of one family, as what one formula stands for.
+-- The leaves of an intersection that are all formulas of one family, as what one formula stands
+-- for.
 use Rattle.std.proofs.Common.{◌≡◌, ℕ, ◌<◌, ◌+◌, ◌-◌, ◌++◌, ◌∙◌, ◌↔◌, Bool, true, false, List, [], ◌∷◌}
 use Rattle.std.proofs.Common.{None, Option, Some, ap, arith, get_or, length, refl, slice_get, sym}
 use Rattle.std.proofs.Common.{inl, inr, subst}
@@ -118,8 +119,8 @@ formulas_of lines askings all some (Some family) one = λ asking has.
       | inr of ↦ (within.0, within.1, of)
     ]
 
--- where the leaves of the intersection are gathered, one family was found for all, and what they ask
--- was put in order, a formula that stands for it stands for the intersection
+-- where the leaves of the intersection are gathered, one family was found for all, and what they
+-- ask was put in order, a formula that stands for it stands for the intersection
 module _ (lines : List Line) (own : KeptLeaves) (is : AreItsLeaves lines own)
     (leaves : List Leaf) (same : leaves ≡ own.leaves.items)
     (start askings : List Asking) (none : start ≡ [])

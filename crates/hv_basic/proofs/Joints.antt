@@ -1,5 +1,5 @@
--- One formula with the clauses of all leaves of an intersection stands for it: that stays right, and
--- the verdict on it is the statement's.
+-- One formula with the clauses of all leaves of an intersection stands for it: that stays right,
+-- and the verdict on it is the statement's.
 use Rattle.std.proofs.Common.{◌≡◌, ℕ, suc, ◌<◌, ◌∙◌, ◌↔◌, Bool, true}
 use Rattle.std.proofs.Common.{List, ◌∷◌, Option, Some, None, get_or}
 use Rattle.std.proofs.Common.{drop, take, sym, arith}

@@ -1,5 +1,5 @@
--- Inclusions with both sides plain, with both negated, and of a plain side in a negated one: what is
--- found of the formulas is what is claimed of their lines.
+-- Inclusions with both sides plain, with both negated, and of a plain side in a negated one: what
+-- is found of the formulas is what is claimed of their lines.
 use Rattle.std.proofs.Common.{◌≡◌, ℕ, ◌∙◌, ◌&&◌, Bool, true, false, not, List, Option, Some, length}
 use Rattle.std.proofs.Common.{None, refl, ap, subst}
 use Rattle.std.proofs.lemmas.List.{length-map}

@@ -23,22 +23,22 @@
 //!   that the `store` keeps. `candidates` says for which actions it is asked: where these are all,
 //!   or most (`long_lists`), and few states are asked about before the action, for those that can
 //!   be applicable there, by the `action_rows` that the `store` keeps; where one formula is asked
-//!   about at both times
-//!   (`framed`), for those that can turn a literal of it (`turned`), by the `change_rows` that the
-//!   `store` keeps, or by a look at each action; where that formula says of pairs of atoms that
-//!   they exclude each other, for those that its `companions` don't tell to stay in it
-//!   (`exclusions`); where formulas before the action deny atoms
-//!   (`denied`), for those that need none of these, by the `action_rows` too. Else `actions` lists
-//!   the actions of the progression: those of a list that rises as they are there, else by the
-//!   flags of `acts`. For each of them `clausal_walk` asks the query of the store of the family by
-//!   one inquiry, `node_walk` asks it of the diagrams in the same way, and `query_walk` of listed
-//!   states; the first query that exceeds the budget or has a counterexample decides.
+//!   about at both times (`framed`), for those that can turn a literal of it (`turned`), by the
+//!   `change_rows` that the `store` keeps, or by a look at each action (`turned_by_look`); where
+//!   that formula says of pairs of atoms that they exclude each other, for those that its
+//!   `companions` don't tell to stay in it (`exclusions`); where formulas before the action deny
+//!   atoms (`denied`), for those that need none of these, by the `action_rows` too. Those that rows
+//!   give are `picked` out by their numbers. Else `actions` lists the actions of the progression:
+//!   those of a list that rises as they are there, else by the flags of `acts`. For each of them
+//!   `clausal_walk` asks the query of the store of the family by one inquiry, `node_walk` asks it
+//!   of the diagrams in the same way, and `query_walk` of listed states; the first query that
+//!   exceeds the budget or has a counterexample decides.
 //!
 //! Statements with `b1` and `b3` go the same way, without a step or with a regression. Those with
 //! `b4`, of two families, are decided in `mixed`, over the formulas that `any_formula` finds, and
 //! those with `b5`, of action sets, in `acts_verdicts`, by the flags of `acts`, which `kept_flags`
-//! keeps. `kinds` says whether clauses are of their family, and `laws` what a verdict says of its
-//! statement.
+//! keeps. What such a statement asks is what `basic` holds, as `shape` gives it. `kinds` says
+//! whether clauses are of their family, and `laws` what a verdict says of its statement.
 //!
 //! What a right side asks is kept for the statements after it, of the four unions that were asked
 //! about last. One of these is there already, and where a right side is the union of one of them

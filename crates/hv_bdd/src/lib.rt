@@ -29,13 +29,14 @@
 //! That search alone serves `meets` and `covers`.
 //!
 //! The other modules, by what they do: `read` reads a node file, by `first`, `numbers` and
-//! `building`; `node_listing` tests its nodes, and `chains` finds them. `diagrams` has the list,
-//! `set` what a node denotes, `walk` and `counts` the paths. A query asks for `asked` sets, by
-//! `node_queries` or `node_inquiry`; `tuple_search` has how a tuple moves, `atom_bits` what an
-//! action needs or changes, `goal` the goal, and `jumps` a state's quick way down. For inclusions
-//! `path_walk` goes along the paths, and `front_ask` answers about a cube by the fronts of nodes
-//! (`level`, `node_fronts`) and by which literals exclude each other (`node_exclusions`); `paths`
-//! joins both to the traits.
+//! `building`; `node_listing` tests its nodes, and `chains` finds them. `fault` says why a file
+//! isn't read, `laws` that it has one answer. `diagrams` has the list, `atom_order` the order of
+//! its atoms, `set` what a node denotes, `walk` and `counts` the paths. A query asks for `asked`
+//! sets, by `node_queries` or `node_inquiry`; `tuple_search` has how a tuple moves, `atom_bits`
+//! what an action needs or changes, `goal` the goal, and `jumps` a state's quick way down. For
+//! inclusions `path_walk` goes along the paths, and `front_ask` answers about a cube by the fronts
+//! of nodes (`level`, `node_fronts`) and by which literals exclude each other (`node_exclusions`);
+//! `paths` joins both to the traits.
 #![tactic(auto)]
 
 pub mod asked;

@@ -59,7 +59,7 @@ impl<K: ClauseKind> Formulas<K> {
         ensures err { OnErr result (self.new ≡ self.old) }
     {
         let number = self.sets.len();
-        // Its clauses are of the kind.
+        // For its contract alone: the clauses are of the kind.
         let _ = set.clauses();
         self.sets.push(set)?;
         Ok(number)
@@ -94,6 +94,7 @@ impl<K: ClauseKind> Formulas<K> {
         ensures how { result ≡ K.completed_by }
         ensures kinded { All (IsKinded K.is_of) self.now }
     {
+        // For the invariant alone: the clauses are of the kind.
         let _ = &self.sets;
         K::completion()
     }

@@ -178,13 +178,14 @@ impl<'a, K: ClauseKind> Problem<'a, K> {
         self.task.goal()
     }
 
-    /// What is true of the atom in the initial state.
-    pub(crate) fn start_literal(&self, atom: u64) -> Literal
-        requires { atom < width self.now }
-        ensures { result ≡ record { atom = atom; positive = names_atom self.now.task.start atom } }
+    /// The literal that says of the atom of this place what is true of it in the initial state.
+    pub(crate) fn start_literal(&self, place: u64) -> Literal
+        requires { place < width self.now }
+        ensures { result ≡
+            record { atom = place; positive = names_atom self.now.task.start place } }
     {
         let start = self.task.start();
-        let atom = atom as u32;
+        let atom = place as u32;
         Literal {
             atom,
             positive: start.has(atom),

@@ -1,5 +1,5 @@
-//! Proofs for the key task by the nodes of a node file, and what the jobs that judge a proof tell of
-//! them.
+//! Proofs for the key task by the nodes of a node file, and what the jobs that judge a proof tell
+//! of them.
 
 use crate::short::{KEY_TASK, is_one_of, told_by, written};
 use std::alloc::{AllocError, Global};

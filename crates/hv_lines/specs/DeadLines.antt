@@ -1,5 +1,5 @@
--- The lines which show that a set is dead, since no action leads out of it but into a dead set, and
--- none of its states is a goal state.
+-- The lines which show that a set is dead: none of its states is a goal state, and no action leads
+-- out of it but into a dead set, or, by a step backwards, but from a dead set.
 use Rattle.std.specs.Prelude.{◌+◌, ℕ, Bool, true, false, List, [], ◌∷◌}
 use Rattle.hv_lines.specs.declared.line.Expr.{Expr}
 use Rattle.hv_lines.specs.declared.line.Expr.TheVariants as E
@@ -30,9 +30,10 @@ abbrev pub empty_note : Note
 empty_note = record { set = 0; line = 0 }
 
 -- The seven lines which show that the newest set, `dead`, is dead, where that of the note `union`
--- is: no action leads out of it but into the union, and none of its states is a goal state. Where
--- the step goes forwards, `dead` is the formula `set` itself; otherwise it is the negation of that
--- formula, and the step goes backwards from the formula. The first statement is line k.
+-- is. Where the step goes forwards, `dead` is the formula `set` itself, and no action leads out of
+-- it but into the union. Otherwise it is the negation of that formula, the step goes backwards from
+-- the formula, and no action leads out of `dead` but from the union. None of the states of `dead`
+-- is a goal state. The first statement is line k.
 abbrev pub dead_lines : Bool → ℕ → ℕ → Note → ℕ → List Line
 dead_lines forwards set dead union k =
     L.Expr (dead + 1) (step_by forwards set)

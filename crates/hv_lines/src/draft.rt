@@ -157,8 +157,8 @@ pub fn conclusion(alloc: Global, id: usize, dead: usize, by: usize) -> Result<Ve
 }
 
 /// The seven lines which show that the newest set, `dead`, is dead, where the line of `union` says
-/// so of another one. Where the step goes forwards, it is the formula `set` itself; otherwise it is
-/// the negation of that formula. The first statement has the identifier `id`.
+/// so of another one. Where the step goes forwards, `dead` is the formula `set` itself; otherwise
+/// it is the negation of that formula. The first statement has the identifier `id`.
 pub fn dead_lines(
     alloc: Global,
     forwards: bool,

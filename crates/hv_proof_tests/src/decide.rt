@@ -1,5 +1,5 @@
-//! Verdicts of basic statements that are asked by themselves. The checker decides a statement beside
-//! those before it, by `verdict_of`: `decide` is there for callers.
+//! Verdicts of basic statements that are asked by themselves. The checker decides a statement
+//! beside those before it, by `verdict_of`: `decide` is there for callers.
 
 ghost use Rattle.std.specs.Prelude.{◌≡◌, ℕ, OnOk};
 ghost use Rattle.hv_task.specs.Strips.{atoms};
@@ -102,8 +102,8 @@ fn is_decided(
     Ok(is_told(&verdict, row.told))
 }
 
-// Set 0 is the initial state, in which atom 0 alone holds, and set 1 the goal, atom 2. Three clauses
-// say that a state is the initial one, and one that it is in the goal.
+// Set 0 is the initial state, in which atom 0 alone holds, and set 1 the goal, atom 2. Three
+// clauses say that a state is the initial one, and one that it is in the goal.
 static ROWS: [(Statement, u64, Told); 5] = [
     (Statement::Sub(0, 0), 3, Told::True),
     (Statement::Sub(0, 0), 2, Told::Over),

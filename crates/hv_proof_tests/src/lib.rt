@@ -1,5 +1,5 @@
-//! Tests of lines, rules and the checker, and of what writes and explains proofs. It has tests
-//! alone.
+//! Tests of lines, rules, verdicts and the checker, and of what writes and explains proofs. It has
+//! tests alone.
 #![tactic(auto)]
 
 #[cfg(test)]

@@ -45,7 +45,8 @@ use Rattle.hv_replay.specs.Working.PrunedLines.{one_beside}
 use Rattle.hv_replay.proofs.Explicit.{constant_states, good_listed, listed_anchors, listed_states}
 use Rattle.hv_replay.proofs.Explicit.{start_anchors, states_at}
 use Rattle.hv_replay.proofs.Spelled.{states_fit}
-use Rattle.hv_replay.proofs.Unions.{leaves_below, leaves_rise, states_stay, stays_union, union_signed}
+use Rattle.hv_replay.proofs.Unions.{leaves_below, leaves_rise, states_stay, stays_union}
+use Rattle.hv_replay.proofs.Unions.{union_signed}
 
 module _ (task : Strips) (is_task : IsTask task) (old : List Line) (good : IsGoodTable task old)
     (prelude : HasPrelude old) (s k count : ℕ)
@@ -74,8 +75,8 @@ module _ (task : Strips) (is_task : IsTask task) (old : List Line) (good : IsGoo
   abbrev all : List ℕ
   all = is_union.leaves ++ s ∷ []
 
-  -- Set s + 2 is the union of the expanded and the pruned states: what it holds and what is asked of
-  -- it, in each draft that goes on after `old`.
+  -- Set s + 2 is the union of the expanded and the pruned states: what it holds and what is asked
+  -- of it, in each draft that goes on after `old`.
   module _ (more : List Line) (now : IsGoodTable task (onto more old))
       (at_s : expr_at (onto more old) s ≡ Some (E.States states))
       (at_or : expr_at (onto more old) (s + 2) ≡ Some (E.Or s union.set)) where
@@ -222,8 +223,8 @@ module _ (task : Strips) (is_task : IsTask task) (old : List Line) (good : IsGoo
   -- no expanded state is a goal state
   misses : IsGood setting Led (L.Known (k + 1) (T.Sub (s + 3) 0) W.B1 [])
   misses =
-      good_listed setting Led led_table ((2, false) ∷ (s, false) ∷ []) ((0, false) ∷ []) None (k + 1)
-      (s + 3) 0 W.B1
+      good_listed setting Led led_table ((2, false) ∷ (s, false) ∷ []) ((0, false) ∷ []) None
+      (k + 1) (s + 3) 0 W.B1
       (formed_sub setting Led (k + 1) (s + 3) 0 W.B1 (omega (arith, k_few)) (omega (arith, k_is))
       (omega (arith, s_few)) (omega arith) (omega (arith, s_is)) (omega arith) refl) tt
       (λ rule. rule)

@@ -117,7 +117,8 @@ module _ (task : Strips) (set : ListedStates) (held : List ℕ) (below : AreBelo
               (omega (arith, length-state_of (atoms task) held)) in absurd cc
         ]
 
-    -- the actions in the rows of the held atoms, and in the last row, are all that may be applicable
+    -- the actions in the rows of the held atoms, and in the last row, are all that may be
+    -- applicable
     pub all_asked : (rows : List (Vec ℕ)) → AreActionRows task rows → (least : ℕ)
         → ((k : ℕ) → IsInRow rows (atoms task) k → k < least → StaysListed task set state k)
         → ((i : ℕ) → i < length held → (k : ℕ) → IsInRow rows (get_or held i 0) k → k < least

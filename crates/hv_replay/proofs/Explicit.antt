@@ -1,5 +1,5 @@
--- Basic statements over explicit sets: a line is good where its statement is true, it has an anchor,
--- and no set that can be the anchor lists more states than the budget.
+-- Basic statements over explicit sets: a line is good where its statement is true, it has an
+-- anchor, and no set that can be the anchor lists more states than the budget.
 use Rattle.std.proofs.Common.{◌≡◌, ℕ, ◌≤◌, ◌∙◌, Bool, false, List, [], ◌∷◌, Option, Some, length}
 use Rattle.std.proofs.Common.{map, get_or, refl, sym, ap, subst, inl, inr, arith}
 use Rattle.std.specs.List.{Contains}

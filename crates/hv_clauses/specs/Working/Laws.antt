@@ -36,13 +36,14 @@ first_is x l c = at c.0 c.1 c.2
 alone_one : (x : Literal) → IsShort (x ∷ [])
 alone_one x l k cl ck = sym (first_is x l cl) ∙ first_is x k ck
 
--- so has each clause of what isn't a set of the store
+-- so has each clause that says that a state is this one
 state_short : (n : ℕ) (held : List ℕ) → All IsShort (clauses_of_state n held)
 state_short zero held = All-nil IsShort
 state_short (suc n) held =
     All-push IsShort (clauses_of_state n held) (unit n (names_atom held n)) (state_short n held)
     (alone_one (record { atom = n; positive = names_atom held n }))
 
+-- so has each clause of what isn't a set of the store
 pub constant_short : (task : Strips) (formulas : ℕ → List (List Literal)) (which : Which)
     → ((number : ℕ) → which ≡ W.Set number → ⊥) → All IsShort (clauses_in task formulas which)
 constant_short task formulas W.Empty none = All-cons IsShort [] [] alone_none (All-nil IsShort)
