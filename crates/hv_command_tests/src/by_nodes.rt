@@ -4,7 +4,6 @@
 use crate::short::{KEY_TASK, is_one_of, told_by, written};
 use std::alloc::{AllocError, Global};
 use std::process::Abort;
-use std::test::Fail;
 
 /// A proof by a diagram of the states that don't have the key.
 pub(crate) const NODE_PROOF: &str = "@e 3 b 2/%";
@@ -56,18 +55,13 @@ pub(crate) fn tells_by_nodes(
 }
 
 /// Asserts that each of these words tells its answer of the proof by the diagram.
-pub(crate) fn all_by_words(
-    rt: &impl Abort,
-    alloc: Global,
-    rows: &[(&str, &str)],
-) -> Result<(), Fail> {
+pub(crate) fn all_by_words(rt: &impl Abort, alloc: Global, rows: &[(&str, &str)]) {
     for (words, answer) in rows {
         assert!(rt;
-            tells_by_nodes(alloc, words, NODES, NODE_PROOF, answer)?,
+            tells_by_nodes(alloc, words, NODES, NODE_PROOF, answer) == Ok(true),
             "{words}"
         );
     }
-    Ok(())
 }
 
 /// Whether these words tell that a file is missing: nothing is written.

@@ -6,7 +6,6 @@ use crate::short::{
 use hv_command::Status;
 use std::alloc::{AllocError, Global};
 use std::process::Abort;
-use std::test::Fail;
 
 const CHECK: &str = "check task proof";
 
@@ -358,34 +357,36 @@ const NOTHING_ASKED: &str = concat!(
 );
 
 // Asserts that the proofs are answered.
-fn all_proofs(rt: &impl Abort, alloc: Global) -> Result<(), Fail> {
-    all_told(rt, alloc, CHECK, KEY_TASK, &PROOFS)
+fn all_proofs(rt: &impl Abort, alloc: Global) {
+    all_told(rt, alloc, CHECK, KEY_TASK, &PROOFS);
 }
 
 // Asserts that the lines of each rule are.
-fn all_rules(rt: &impl Abort, alloc: Global) -> Result<(), Fail> {
-    all_told(rt, alloc, CHECK, KEY_TASK, &RULES)
+fn all_rules(rt: &impl Abort, alloc: Global) {
+    all_told(rt, alloc, CHECK, KEY_TASK, &RULES);
 }
 
 #[test]
-fn judges_proofs_of_the_key_task(rt: HostRuntime) -> Result<(), Fail> {
-    all_proofs(&rt, rt.alloc())?;
-    all_rules(&rt, rt.alloc())
+fn judges_proofs_of_the_key_task(rt: HostRuntime) {
+    all_proofs(&rt, rt.alloc());
+    all_rules(&rt, rt.alloc());
 }
 
 // Asserts that `check` of the explicit proof tells of each task its answer.
-fn all_read(rt: &impl Abort, alloc: Global, rows: &[(&str, &str)]) -> Result<(), Fail> {
+fn all_read(rt: &impl Abort, alloc: Global, rows: &[(&str, &str)]) {
     for (task, answer) in rows {
-        assert!(rt; tells(alloc, CHECK, task, TWO_STATES, answer)?, "{task}");
+        assert!(rt;
+            tells(alloc, CHECK, task, TWO_STATES, answer) == Ok(true),
+            "{task}"
+        );
     }
-    Ok(())
 }
 
 #[test]
-fn judges_other_tasks(rt: HostRuntime) -> Result<(), Fail> {
-    all_read(&rt, rt.alloc(), &TASKS)?;
-    all_told(&rt, rt.alloc(), CHECK, GOAL_AT_THE_START, &WITHOUT_GOAL)?;
-    all_told(&rt, rt.alloc(), CHECK, NOTHING_ASKED, &WITHOUT_PROOF)
+fn judges_other_tasks(rt: HostRuntime) {
+    all_read(&rt, rt.alloc(), &TASKS);
+    all_told(&rt, rt.alloc(), CHECK, GOAL_AT_THE_START, &WITHOUT_GOAL);
+    all_told(&rt, rt.alloc(), CHECK, NOTHING_ASKED, &WITHOUT_PROOF);
 }
 
 // Whether `check` tells a fault of the task.
@@ -452,10 +453,9 @@ fn its_proof_needs_the_task(alloc: Global) -> Result<bool, AllocError> {
 }
 
 #[test]
-fn needs_the_whole_files(rt: HostRuntime) -> Result<(), Fail> {
-    assert!(rt; key_task_needs_the_proof(rt.alloc())?);
-    assert!(rt; its_proof_needs_the_task(rt.alloc())?);
-    Ok(())
+fn needs_the_whole_files(rt: HostRuntime) {
+    assert!(rt; key_task_needs_the_proof(rt.alloc()) == Ok(true));
+    assert!(rt; its_proof_needs_the_task(rt.alloc()) == Ok(true));
 }
 
 // Puts so many copies of this text last.
@@ -489,10 +489,9 @@ fn early_tells(alloc: Global, call: u64, text: &[u8]) -> Result<bool, AllocError
 // The task takes an open, 36 reads that give bytes and one that gives none; the proof is opened
 // and read twice, which brings the eight bytes of its first line, and no further.
 #[test]
-fn reads_no_further_than_the_refused_line(rt: HostRuntime) -> Result<(), Fail> {
-    assert!(rt; early_tells(rt.alloc(), 1 + 36 + 1 + 3, b"4 ")?);
-    assert!(rt; early_tells(rt.alloc(), 1 + 36 + 1 + 4, b"1 line 1: number\n")?);
-    Ok(())
+fn reads_no_further_than_the_refused_line(rt: HostRuntime) {
+    assert!(rt; early_tells(rt.alloc(), 1 + 36 + 1 + 3, b"4 ") == Ok(true));
+    assert!(rt; early_tells(rt.alloc(), 1 + 36 + 1 + 4, b"1 line 1: number\n") == Ok(true));
 }
 
 // Whether `check` alone tells how the program is called.
@@ -502,9 +501,8 @@ fn tells_usage(alloc: Global) -> Result<bool, AllocError> {
 }
 
 #[test]
-fn tells_words_that_are_no_job(rt: HostRuntime) -> Result<(), Fail> {
-    assert!(rt; tells_usage(rt.alloc())?);
-    Ok(())
+fn tells_words_that_are_no_job(rt: HostRuntime) {
+    assert!(rt; tells_usage(rt.alloc()) == Ok(true));
 }
 
 static STATUSES: [Status; 7] = [
@@ -541,8 +539,14 @@ fn wide_task(alloc: Global) -> Result<String, AllocError> {
     Ok(task)
 }
 
+// Asserts that the proofs for this task are answered.
+fn all_clashes(rt: &impl Abort, alloc: Global) -> Result<(), AllocError> {
+    let task = wide_task(alloc)?;
+    all_told(rt, alloc, CHECK, task.as_str(), &CLASHES);
+    Ok(())
+}
+
 #[test]
-fn tells_counterexamples(rt: HostRuntime) -> Result<(), Fail> {
-    let task = wide_task(rt.alloc())?;
-    all_told(&rt, rt.alloc(), CHECK, task.as_str(), &CLASHES)
+fn tells_counterexamples(rt: HostRuntime) {
+    assert!(rt; all_clashes(&rt, rt.alloc()) == Ok(()));
 }

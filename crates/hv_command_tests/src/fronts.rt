@@ -3,7 +3,6 @@
 use crate::short::{KEY_TASK, is_done, is_text, tells, told, written};
 use std::alloc::{AllocError, Global};
 use std::process::Abort;
-use std::test::Fail;
 
 /// A lamp that is off at the start, and a switch that turns it on, as a translator writes it; the
 /// lines are parted by `/`.
@@ -87,16 +86,18 @@ static LAMPS: [(usize, &str, &str); 10] = [
 ];
 
 // Asserts that each lamp gets its answer.
-fn all_made(rt: &impl Abort, alloc: Global, rows: &[(usize, &str, &str)]) -> Result<(), Fail> {
+fn all_made(rt: &impl Abort, alloc: Global, rows: &[(usize, &str, &str)]) {
     for (number, other, answer) in rows {
-        assert!(rt; is_made(alloc, *number, other, answer)?, "{number} {other}");
+        assert!(rt;
+            is_made(alloc, *number, other, answer) == Ok(true),
+            "{number} {other}"
+        );
     }
-    Ok(())
 }
 
 #[test]
-fn makes_tasks_of_translators_tasks(rt: HostRuntime) -> Result<(), Fail> {
-    all_made(&rt, rt.alloc(), &LAMPS)
+fn makes_tasks_of_translators_tasks(rt: HostRuntime) {
+    all_made(&rt, rt.alloc(), &LAMPS);
 }
 
 /// The key task with the goal that the robot is at the other place.
@@ -140,19 +141,18 @@ fn excludes(alloc: Global, task: &str) -> Result<bool, AllocError> {
 }
 
 #[test]
-fn bounds_the_cost(rt: HostRuntime) -> Result<(), Fail> {
+fn bounds_the_cost(rt: HostRuntime) {
     let alloc = rt.alloc();
-    assert!(rt; writes(alloc, "bound task 0", OTHER_PLACE, NOTHING_TO_SPEND)?);
-    assert!(rt; writes(alloc, "bound task 1", OTHER_PLACE, ONE_TO_SPEND)?);
-    assert!(rt; tells(alloc, "bound task 65532", OTHER_PLACE, "", "1 too large")?);
-    Ok(())
+    assert!(rt; writes(alloc, "bound task 0", OTHER_PLACE, NOTHING_TO_SPEND) == Ok(true));
+    assert!(rt; writes(alloc, "bound task 1", OTHER_PLACE, ONE_TO_SPEND) == Ok(true));
+    assert!(rt; tells(alloc, "bound task 65532", OTHER_PLACE, "", "1 too large") == Ok(true));
 }
 
 // With nothing to spend the other place isn't reached, and that is shown; with 1 it is.
 #[test]
-fn shows_that_plans_cost_more(rt: HostRuntime) -> Result<(), Fail> {
+fn shows_that_plans_cost_more(rt: HostRuntime) {
     let alloc = rt.alloc();
-    assert!(rt; excludes(alloc, NOTHING_TO_SPEND)?);
+    assert!(rt; excludes(alloc, NOTHING_TO_SPEND) == Ok(true));
     assert!(rt;
         tells(
             alloc,
@@ -160,9 +160,8 @@ fn shows_that_plans_cost_more(rt: HostRuntime) -> Result<(), Fail> {
             ONE_TO_SPEND,
             "",
             "1 no proof"
-        )?
+        ) == Ok(true)
     );
-    Ok(())
 }
 
 // A plan file, and the answer.
@@ -180,25 +179,18 @@ static PLANS: [(&str, &str); 10] = [
 ];
 
 // Asserts that each plan of this task gets its answer.
-fn all_checked(
-    rt: &impl Abort,
-    alloc: Global,
-    task: &str,
-    rows: &[(&str, &str)],
-) -> Result<(), Fail> {
+fn all_checked(rt: &impl Abort, alloc: Global, task: &str, rows: &[(&str, &str)]) {
     for (plan, answer) in rows {
         assert!(rt;
-            tells(alloc, "plan task proof", task, plan, answer)?,
+            tells(alloc, "plan task proof", task, plan, answer) == Ok(true),
             "{plan}"
         );
     }
-    Ok(())
 }
 
 #[test]
-fn checks_plans(rt: HostRuntime) -> Result<(), Fail> {
+fn checks_plans(rt: HostRuntime) {
     let alloc = rt.alloc();
-    all_checked(&rt, alloc, OTHER_PLACE, &PLANS)?;
-    assert!(rt; tells(alloc, "plan task proof", KEY_TASK, "0", "1 no goal")?);
-    Ok(())
+    all_checked(&rt, alloc, OTHER_PLACE, &PLANS);
+    assert!(rt; tells(alloc, "plan task proof", KEY_TASK, "0", "1 no goal") == Ok(true));
 }

@@ -6,7 +6,6 @@ use crate::short::{KEY_TASK, is_text, tells, told, told_by, written};
 use hv_bytes::Text;
 use std::alloc::{AllocError, Global};
 use std::process::Abort;
-use std::test::Fail;
 
 const CHECK: &str = "check task proof";
 
@@ -21,11 +20,13 @@ static PROOFS: [(&str, &str); 3] = [
 ];
 
 // Asserts that `check` tells of the key task and each proof its answer.
-fn all_refused(rt: &impl Abort, alloc: Global, rows: &[(&str, &str)]) -> Result<(), Fail> {
+fn all_refused(rt: &impl Abort, alloc: Global, rows: &[(&str, &str)]) {
     for (proof, answer) in rows {
-        assert!(rt; tells(alloc, CHECK, KEY_TASK, proof, answer)?, "{proof}");
+        assert!(rt;
+            tells(alloc, CHECK, KEY_TASK, proof, answer) == Ok(true),
+            "{proof}"
+        );
     }
-    Ok(())
 }
 
 // Whether `check` tells this answer of the key task and this proof.
@@ -44,12 +45,11 @@ fn tells_of_comment(alloc: Global, length: usize, answer: &str) -> Result<bool, 
 
 // A line may have 16,777,216 bytes.
 #[test]
-fn refuses_what_is_no_line(rt: HostRuntime) -> Result<(), Fail> {
-    all_refused(&rt, rt.alloc(), &PROOFS)?;
-    assert!(rt; tells_of(rt.alloc(), b"\x00\xff", "1 line 1: grammar")?);
-    assert!(rt; tells_of_comment(rt.alloc(), 16777217, "1 line 1: long")?);
-    assert!(rt; tells_of_comment(rt.alloc(), 16777216, "1 no conclusion")?);
-    Ok(())
+fn refuses_what_is_no_line(rt: HostRuntime) {
+    all_refused(&rt, rt.alloc(), &PROOFS);
+    assert!(rt; tells_of(rt.alloc(), b"\x00\xff", "1 line 1: grammar") == Ok(true));
+    assert!(rt; tells_of_comment(rt.alloc(), 16777217, "1 line 1: long") == Ok(true));
+    assert!(rt; tells_of_comment(rt.alloc(), 16777216, "1 no conclusion") == Ok(true));
 }
 
 // Puts the two nodes for an atom last that exchange these two.
@@ -117,25 +117,25 @@ static BY_PARITY: [(u32, &str, &str); 3] = [
 ];
 
 // Asserts that each of these proofs gets its answer.
-fn all_by_parity(
-    rt: &impl Abort,
-    alloc: Global,
-    task: &Text,
-    rows: &[(u32, &str, &str)],
-) -> Result<(), Fail> {
+fn all_by_parity(rt: &impl Abort, alloc: Global, task: &Text, rows: &[(u32, &str, &str)]) {
     for (budget, proof, answer) in rows {
         assert!(rt;
-            tells_of_parity(alloc, task, *budget, proof, answer)?,
+            tells_of_parity(alloc, task, *budget, proof, answer) == Ok(true),
             "{budget}"
         );
     }
+}
+
+// Asserts that the proofs for the sample are answered.
+fn all_of_rooms(rt: &impl Abort, alloc: Global) -> Result<(), AllocError> {
+    let task = rooms_text(alloc)?;
+    all_by_parity(rt, alloc, &task, &BY_PARITY);
     Ok(())
 }
 
 #[test]
-fn judges_a_diagram_of_many_paths(rt: HostRuntime) -> Result<(), Fail> {
-    let task = rooms_text(rt.alloc())?;
-    all_by_parity(&rt, rt.alloc(), &task, &BY_PARITY)
+fn judges_a_diagram_of_many_paths(rt: HostRuntime) {
+    assert!(rt; all_of_rooms(&rt, rt.alloc()) == Ok(()));
 }
 
 // Puts an action last that adds this atom in any state.
@@ -175,7 +175,6 @@ fn tells_of_adding_task(alloc: Global, words: &str, answer: &str) -> Result<bool
 // A goal state can be reached from every state, so the greatest trap is empty. There are 590
 // clauses that may be in one.
 #[test]
-fn finds_no_trap_among_many_clauses(rt: HostRuntime) -> Result<(), Fail> {
-    assert!(rt; tells_of_adding_task(rt.alloc(), "produce trap task", "1 no proof")?);
-    Ok(())
+fn finds_no_trap_among_many_clauses(rt: HostRuntime) {
+    assert!(rt; tells_of_adding_task(rt.alloc(), "produce trap task", "1 no proof") == Ok(true));
 }

@@ -5,7 +5,6 @@ use crate::by_nodes::{NEEDED, NODE_PROOF, tells_by_nodes, tells_of_key};
 use crate::short::{is_text, put_names, told_by, written};
 use std::alloc::{AllocError, Global};
 use std::process::Abort;
-use std::test::Fail;
 
 // The states that don't have the key, in three orders of the atoms. That the initial state is one
 // of them has a live tuple for each atom up to the key.
@@ -182,22 +181,17 @@ fn is_accepted(alloc: Global, nodes: &str, options: &str, lines: &str) -> Result
 }
 
 // Asserts that each of these proofs is accepted.
-fn all_accepted(rt: &impl Abort, alloc: Global, rows: &[(&str, &str, &str)]) -> Result<(), Fail> {
+fn all_accepted(rt: &impl Abort, alloc: Global, rows: &[(&str, &str, &str)]) {
     for (nodes, options, lines) in rows {
         assert!(rt;
-            is_accepted(alloc, nodes, options, lines)?,
+            is_accepted(alloc, nodes, options, lines) == Ok(true),
             "{nodes}{options}"
         );
     }
-    Ok(())
 }
 
 // Asserts that each of these proofs is told its answer by the three commands.
-fn all_refused(
-    rt: &impl Abort,
-    alloc: Global,
-    rows: &[(&str, &str, &str, &str)],
-) -> Result<(), Fail> {
+fn all_refused(rt: &impl Abort, alloc: Global, rows: &[(&str, &str, &str, &str)]) {
     for (nodes, options, proof, answer) in rows {
         assert!(rt;
             all_tell(
@@ -205,17 +199,16 @@ fn all_refused(
                 (*nodes, *proof),
                 options,
                 [*answer, *answer, *answer]
-            )?,
+            ) == Ok(true),
             "{nodes}{options} {proof}"
         );
     }
-    Ok(())
 }
 
 #[test]
-fn judges_in_the_order_of_the_nodes(rt: HostRuntime) -> Result<(), Fail> {
-    all_accepted(&rt, rt.alloc(), &ACCEPTED)?;
-    all_refused(&rt, rt.alloc(), &REFUSED)
+fn judges_in_the_order_of_the_nodes(rt: HostRuntime) {
+    all_accepted(&rt, rt.alloc(), &ACCEPTED);
+    all_refused(&rt, rt.alloc(), &REFUSED);
 }
 
 // Whether `check` tells this answer where the node file is a line of so many bytes that begins with
@@ -235,11 +228,12 @@ fn tells_of_long_order(alloc: Global, length: usize, answer: &str) -> Result<boo
 
 // A line may have 16,777,216 bytes; that it has more is told before its form.
 #[test]
-fn refuses_an_order_on_a_long_line(rt: HostRuntime) -> Result<(), Fail> {
+fn refuses_an_order_on_a_long_line(rt: HostRuntime) {
     let place = "3 nodes line 1: place permutation";
-    assert!(rt; tells_of_long_order(rt.alloc(), 16777216, place)?);
-    assert!(rt; tells_of_long_order(rt.alloc(), 16777217, "3 nodes line 1: limit long")?);
-    Ok(())
+    assert!(rt; tells_of_long_order(rt.alloc(), 16777216, place) == Ok(true));
+    assert!(rt;
+        tells_of_long_order(rt.alloc(), 16777217, "3 nodes line 1: limit long") == Ok(true)
+    );
 }
 
 // Puts a task of 65,535 atoms last, of which none holds at the start and the first is wanted.
@@ -318,19 +312,13 @@ static FALLING: [(&str, &str, &str); 7] = [
 ];
 
 // Asserts that each of these orders is told its answer.
-fn all_falling(
-    rt: &impl Abort,
-    alloc: Global,
-    task: &[u8],
-    rows: &[(&str, &str, &str)],
-) -> Result<(), Fail> {
+fn all_falling(rt: &impl Abort, alloc: Global, task: &[u8], rows: &[(&str, &str, &str)]) {
     for (budget, rest, answer) in rows {
         assert!(rt;
-            tells_of_falling(alloc, task, budget, rest, answer)?,
+            tells_of_falling(alloc, task, budget, rest, answer) == Ok(true),
             "{budget}{rest}"
         );
     }
-    Ok(())
 }
 
 // The nodes are in the falling order alone.
@@ -339,10 +327,14 @@ fn needs_the_order(alloc: Global, task: &[u8]) -> Result<bool, AllocError> {
     tells_of_widest(alloc, task, "", nodes, "3 nodes line 3: place order")
 }
 
+// Whether each of these orders is told its answer for the widest task, which needs the order.
+fn widest_is_told(rt: &impl Abort, alloc: Global) -> Result<bool, AllocError> {
+    let task = widest_task(alloc)?;
+    all_falling(rt, alloc, task.as_slice(), &FALLING);
+    needs_the_order(alloc, task.as_slice())
+}
+
 #[test]
-fn takes_an_order_of_as_many_atoms_as_there_may_be(rt: HostRuntime) -> Result<(), Fail> {
-    let task = widest_task(rt.alloc())?;
-    all_falling(&rt, rt.alloc(), task.as_slice(), &FALLING)?;
-    assert!(rt; needs_the_order(rt.alloc(), task.as_slice())?);
-    Ok(())
+fn takes_an_order_of_as_many_atoms_as_there_may_be(rt: HostRuntime) {
+    assert!(rt; widest_is_told(&rt, rt.alloc()) == Ok(true));
 }

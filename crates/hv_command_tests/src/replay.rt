@@ -13,7 +13,6 @@ use hv_task::Task;
 use hv_task_text::read_task;
 use std::alloc::{AllocError, Global};
 use std::process::Abort;
-use std::test::Fail;
 
 // Three wishes, of which each action grants one and takes the next one back; a lamp that is on in
 // the beginning; and two rooms, between which one goes. All six are wanted.
@@ -103,30 +102,30 @@ fn is_proved(alloc: Global, task: &str, log: &str) -> Result<bool, AllocError> {
 }
 
 // Asserts that a replay tells of the key task and each log its answer.
-fn all_replayed(rt: &impl Abort, alloc: Global, rows: &[(&str, &str)]) -> Result<(), Fail> {
+fn all_replayed(rt: &impl Abort, alloc: Global, rows: &[(&str, &str)]) {
     for (log, answer) in rows {
-        assert!(rt; tells_replayed(alloc, KEY_TASK, log, answer)?, "{log}");
+        assert!(rt;
+            tells_replayed(alloc, KEY_TASK, log, answer) == Ok(true),
+            "{log}"
+        );
     }
-    Ok(())
 }
 
 // Asserts that what it tells is accepted.
-fn all_proved(rt: &impl Abort, alloc: Global, rows: &[(&str, &str)]) -> Result<(), Fail> {
+fn all_proved(rt: &impl Abort, alloc: Global, rows: &[(&str, &str)]) {
     for (log, _proof) in rows {
-        assert!(rt; is_proved(alloc, KEY_TASK, log)?, "{log}");
+        assert!(rt; is_proved(alloc, KEY_TASK, log) == Ok(true), "{log}");
     }
-    Ok(())
 }
 
 // Without pruners nothing is justified.
 #[test]
-fn replays_closed_logs_alone(rt: HostRuntime) -> Result<(), Fail> {
-    all_replayed(&rt, rt.alloc(), &PROOFS)?;
-    all_proved(&rt, rt.alloc(), &PROOFS)?;
-    all_replayed(&rt, rt.alloc(), &ROWS)?;
+fn replays_closed_logs_alone(rt: HostRuntime) {
+    all_replayed(&rt, rt.alloc(), &PROOFS);
+    all_proved(&rt, rt.alloc(), &PROOFS);
+    all_replayed(&rt, rt.alloc(), &ROWS);
     let (words, log) = ("replay task proof", "x 0/p 1/end/");
-    assert!(rt; tells(rt.alloc(), words, KEY_TASK, log, UNJUSTIFIED)?);
-    Ok(())
+    assert!(rt; tells(rt.alloc(), words, KEY_TASK, log, UNJUSTIFIED) == Ok(true));
 }
 
 // How many lines of the text have this part.
@@ -159,12 +158,11 @@ const UNCOVERED: &str = "p 0 4/p 0 3 4/p 0 3 4 5/p 1 3 4 5/p 0 1 2 3 4 5/end/";
 // Without the lamp nothing brings it; one is never in both rooms; and some wish is always missing.
 // The last two states are covered by one trap.
 #[test]
-fn asks_three_pruners_in_order(rt: HostRuntime) -> Result<(), Fail> {
-    assert!(rt; has_lines(rt.alloc(), SIX_ATOMS, COVERED, (62, 1, 1))?);
-    assert!(rt; is_proved(rt.alloc(), SIX_ATOMS, COVERED)?);
+fn asks_three_pruners_in_order(rt: HostRuntime) {
+    assert!(rt; has_lines(rt.alloc(), SIX_ATOMS, COVERED, (62, 1, 1)) == Ok(true));
+    assert!(rt; is_proved(rt.alloc(), SIX_ATOMS, COVERED) == Ok(true));
     let answer = "1 log line 5: unjustified";
-    assert!(rt; tells_replayed(rt.alloc(), SIX_ATOMS, UNCOVERED, answer)?);
-    Ok(())
+    assert!(rt; tells_replayed(rt.alloc(), SIX_ATOMS, UNCOVERED, answer) == Ok(true));
 }
 
 // Appends the proof that the log becomes with these pruners, or that memory was refused; nothing
@@ -280,7 +278,6 @@ fn are_the_same_by_three(alloc: Global) -> Result<bool, AllocError> {
 
 // Pruners that are used again write what new ones do.
 #[test]
-fn replays_a_second_log_with_the_same_pruners(rt: HostRuntime) -> Result<(), Fail> {
-    assert!(rt; are_the_same_by_three(rt.alloc())?);
-    Ok(())
+fn replays_a_second_log_with_the_same_pruners(rt: HostRuntime) {
+    assert!(rt; are_the_same_by_three(rt.alloc()) == Ok(true));
 }

@@ -9,7 +9,6 @@ use hv_command::{Status, Words, run};
 use hv_lines::Pruner;
 use std::alloc::{AllocError, Global};
 use std::process::Abort;
-use std::test::Fail;
 
 /// The key task: a robot goes between two places, and nothing ever gives it the key.
 pub(crate) const KEY_TASK: &str = concat!(
@@ -304,9 +303,11 @@ pub(crate) fn all_told(
     words: &str,
     task: &str,
     rows: &[(&str, &str)],
-) -> Result<(), Fail> {
+) {
     for (proof, answers) in rows {
-        assert!(rt; tells(alloc, words, task, proof, answers)?, "{proof}");
+        assert!(rt;
+            tells(alloc, words, task, proof, answers) == Ok(true),
+            "{proof}"
+        );
     }
-    Ok(())
 }

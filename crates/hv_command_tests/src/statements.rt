@@ -5,7 +5,6 @@ use crate::by_nodes::tells_by_nodes;
 use crate::short::{KEY_TASK, ONE_OF_TWO, THREE_WISHES, is_text, put_names, tells, told, written};
 use std::alloc::{AllocError, Global};
 use std::process::Abort;
-use std::test::Fail;
 
 // An action that adds the atom that it deletes.
 const ADDS_WHAT_IT_DELETES: &str = concat!(
@@ -223,34 +222,34 @@ fn tells_within(
 }
 
 /// Asserts that each proof for the key task is answered within its budget.
-pub(crate) fn all_within(
-    rt: &impl Abort,
-    alloc: Global,
-    rows: &[(&str, &str, &str)],
-) -> Result<(), Fail> {
+pub(crate) fn all_within(rt: &impl Abort, alloc: Global, rows: &[(&str, &str, &str)]) {
     for (budget, proof, answers) in rows {
-        assert!(rt; tells_within(alloc, budget, proof, answers)?, "{proof}");
+        assert!(rt;
+            tells_within(alloc, budget, proof, answers) == Ok(true),
+            "{proof}"
+        );
     }
-    Ok(())
 }
 
 // Asserts that each task and proof is answered within the standard budget.
-fn all_of_tasks(rt: &impl Abort, alloc: Global, rows: &[(&str, &str, &str)]) -> Result<(), Fail> {
+fn all_of_tasks(rt: &impl Abort, alloc: Global, rows: &[(&str, &str, &str)]) {
     for (task, proof, answers) in rows {
-        assert!(rt; tells(alloc, STANDARD, task, proof, answers)?, "{proof}");
+        assert!(rt;
+            tells(alloc, STANDARD, task, proof, answers) == Ok(true),
+            "{proof}"
+        );
     }
-    Ok(())
 }
 
 // Asserts that all of the key task are.
-fn all_of_key_task(rt: &impl Abort, alloc: Global) -> Result<(), Fail> {
-    all_within(rt, alloc, &ROWS)
+fn all_of_key_task(rt: &impl Abort, alloc: Global) {
+    all_within(rt, alloc, &ROWS);
 }
 
 #[test]
-fn judges_basic_statements(rt: HostRuntime) -> Result<(), Fail> {
-    all_of_key_task(&rt, rt.alloc())?;
-    all_of_tasks(&rt, rt.alloc(), &OTHER_TASKS)
+fn judges_basic_statements(rt: HostRuntime) {
+    all_of_key_task(&rt, rt.alloc());
+    all_of_tasks(&rt, rt.alloc(), &OTHER_TASKS);
 }
 
 // Puts 59 unions of the last set with itself last.
@@ -323,12 +322,11 @@ fn wide_answers(alloc: Global, asked: u32, answer: &str) -> Result<bool, AllocEr
 // The positive operand and 65,536 negative ones are one too many; without the last of them they
 // are just as many as may be.
 #[test]
-fn a_statement_has_operands_up_to_the_limit(rt: HostRuntime) -> Result<(), Fail> {
-    assert!(rt; shared_answers(rt.alloc(), 59, "1 no conclusion")?);
-    assert!(rt; shared_answers(rt.alloc(), 60, "1 line 61: unknown")?);
-    assert!(rt; wide_answers(rt.alloc(), 131070, "1 line 131072: shape")?);
-    assert!(rt; wide_answers(rt.alloc(), 131069, "1 no conclusion")?);
-    Ok(())
+fn a_statement_has_operands_up_to_the_limit(rt: HostRuntime) {
+    assert!(rt; shared_answers(rt.alloc(), 59, "1 no conclusion") == Ok(true));
+    assert!(rt; shared_answers(rt.alloc(), 60, "1 line 61: unknown") == Ok(true));
+    assert!(rt; wide_answers(rt.alloc(), 131070, "1 line 131072: shape") == Ok(true));
+    assert!(rt; wide_answers(rt.alloc(), 131069, "1 no conclusion") == Ok(true));
 }
 
 // Puts a task of 130 atoms without actions last; the first holds at the start, and the last is
@@ -406,10 +404,9 @@ fn broken_chain_answers(alloc: Global) -> Result<bool, AllocError> {
 }
 
 #[test]
-fn follows_a_chain_of_clauses(rt: HostRuntime) -> Result<(), Fail> {
-    assert!(rt; chain_answers(rt.alloc(), 130, 0, "1 no conclusion")?);
-    assert!(rt; broken_chain_answers(rt.alloc())?);
-    Ok(())
+fn follows_a_chain_of_clauses(rt: HostRuntime) {
+    assert!(rt; chain_answers(rt.alloc(), 130, 0, "1 no conclusion") == Ok(true));
+    assert!(rt; broken_chain_answers(rt.alloc()) == Ok(true));
 }
 
 // A node file of two nodes: node 2 is "not atom 1", and node 3 is "neither atom 0 nor atom 1".
@@ -564,23 +561,18 @@ fn tells_in_both_orders(
 }
 
 // Asserts that each node file and proof is answered within its budget.
-fn all_by_nodes(
-    rt: &impl Abort,
-    alloc: Global,
-    rows: &[(&str, &str, &str, &str)],
-) -> Result<(), Fail> {
+fn all_by_nodes(rt: &impl Abort, alloc: Global, rows: &[(&str, &str, &str, &str)]) {
     for (nodes, budget, proof, answers) in rows {
         assert!(rt;
-            tells_in_both_orders(alloc, budget, nodes, proof, answers)?,
+            tells_in_both_orders(alloc, budget, nodes, proof, answers) == Ok(true),
             "{proof}"
         );
     }
-    Ok(())
 }
 
 #[test]
-fn judges_by_node_files(rt: HostRuntime) -> Result<(), Fail> {
-    all_by_nodes(&rt, rt.alloc(), &NODES_ROWS)
+fn judges_by_node_files(rt: HostRuntime) {
+    all_by_nodes(&rt, rt.alloc(), &NODES_ROWS);
 }
 
 // Node 2 is "not atom 1", node 3 is "neither atom 0 nor atom 1", and node 4 is "not both of them".
@@ -819,36 +811,26 @@ fn is_right_both_ways(
 }
 
 /// Asserts that each inclusion is answered rightly, both ways.
-pub(crate) fn all_right(
-    rt: &impl Abort,
-    alloc: Global,
-    rows: &[(&str, &str, &str, &str)],
-) -> Result<(), Fail> {
+pub(crate) fn all_right(rt: &impl Abort, alloc: Global, rows: &[(&str, &str, &str, &str)]) {
     for (sides, first, second, answers) in rows {
-        assert!(rt; is_right_both_ways(alloc, sides, (*first, *second), answers)?);
+        assert!(rt; is_right_both_ways(alloc, sides, (*first, *second), answers) == Ok(true));
     }
-    Ok(())
 }
 
 #[test]
-fn judges_inclusions_between_two_families(rt: HostRuntime) -> Result<(), Fail> {
-    all_right(&rt, rt.alloc(), &TWO_ROWS)
+fn judges_inclusions_between_two_families(rt: HostRuntime) {
+    all_right(&rt, rt.alloc(), &TWO_ROWS);
 }
 
 /// Asserts that none of these inclusions is offered.
-pub(crate) fn none_offered(
-    rt: &impl Abort,
-    alloc: Global,
-    rows: &[(&str, &str, &str)],
-) -> Result<(), Fail> {
+pub(crate) fn none_offered(rt: &impl Abort, alloc: Global, rows: &[(&str, &str, &str)]) {
     for (sides, first, second) in rows {
         let answers = "1 line 5: not offered";
-        assert!(rt; tells_inclusion(alloc, sides, (*first, *second), "2", answers)?);
+        assert!(rt; tells_inclusion(alloc, sides, (*first, *second), "2", answers) == Ok(true));
     }
-    Ok(())
 }
 
 #[test]
-fn tells_which_inclusions_are_not_offered(rt: HostRuntime) -> Result<(), Fail> {
-    none_offered(&rt, rt.alloc(), &NOT_OFFERED)
+fn tells_which_inclusions_are_not_offered(rt: HostRuntime) {
+    none_offered(&rt, rt.alloc(), &NOT_OFFERED);
 }

@@ -5,7 +5,6 @@ use hv_bound::{BoundFault, bounded};
 use hv_task::Task;
 use hv_task_text::{TaskFault, write_task};
 use std::alloc::{AllocError, Global};
-use std::test::Fail;
 
 // Whether the task is written so.
 fn is_written(alloc: Global, task: &Task, want: &[u8]) -> Result<bool, AllocError> {
@@ -21,13 +20,19 @@ fn is_written_within(
     want: &[u8],
 ) -> Result<bool, BoundFault> {
     let made = bounded(alloc, task, most)?;
-    Ok(is_written(alloc, &made, want)?)
+    Ok(is_written(alloc, &made, want) == Ok(true))
 }
 
 // Whether the task of the bound has these lines.
 fn is_made(alloc: Global, task: &Task, most: u32, want: &[&str]) -> Result<bool, BoundFault> {
     let text = joined(alloc, want)?;
     is_written_within(alloc, task, most, text.as_slice())
+}
+
+// Whether the task of the bound that is made of these lines has those.
+fn makes(alloc: Global, lines: &[&str], most: u32, want: &[&str]) -> Result<bool, TaskFault> {
+    let task = task_of(alloc, lines)?;
+    Ok(is_made(alloc, &task, most, want) == Ok(true))
 }
 
 /// Back and forth where nothing may be spent: no action is left.
@@ -90,11 +95,9 @@ static ONE_TO_SPEND: [&str; 36] = [
 ];
 
 #[test]
-fn back_and_forth_within_bounds(rt: HostRuntime) -> Result<(), Fail> {
-    let task = task_of(rt.alloc(), &BACK_AND_FORTH)?;
-    assert!(rt; is_made(rt.alloc(), &task, 0, &NOTHING_TO_SPEND)?);
-    assert!(rt; is_made(rt.alloc(), &task, 1, &ONE_TO_SPEND)?);
-    Ok(())
+fn back_and_forth_within_bounds(rt: HostRuntime) {
+    assert!(rt; makes(rt.alloc(), &BACK_AND_FORTH, 0, &NOTHING_TO_SPEND) == Ok(true));
+    assert!(rt; makes(rt.alloc(), &BACK_AND_FORTH, 1, &ONE_TO_SPEND) == Ok(true));
 }
 
 /// Two atoms, and actions that cost nothing, two, and more than the bound.
@@ -169,10 +172,8 @@ static THREE_TO_SPEND: [&str; 36] = [
 ];
 
 #[test]
-fn free_fair_and_dear_actions(rt: HostRuntime) -> Result<(), Fail> {
-    let task = task_of(rt.alloc(), &THREE_COSTS)?;
-    assert!(rt; is_made(rt.alloc(), &task, 3, &THREE_TO_SPEND)?);
-    Ok(())
+fn free_fair_and_dear_actions(rt: HostRuntime) {
+    assert!(rt; makes(rt.alloc(), &THREE_COSTS, 3, &THREE_TO_SPEND) == Ok(true));
 }
 
 // How many atoms and actions the task of the bound has.
@@ -186,13 +187,23 @@ fn is_too_large(alloc: Global, task: &Task, most: u32) -> bool {
     counts(alloc, task, most).err() == Some(BoundFault::TooLarge)
 }
 
+// Whether back and forth is too large where this may be spent.
+fn goes_too_far(alloc: Global, most: u32) -> Result<bool, TaskFault> {
+    let task = task_of(alloc, &BACK_AND_FORTH)?;
+    Ok(is_too_large(alloc, &task, most))
+}
+
+// Whether it has so many atoms and actions then.
+fn has_counts(alloc: Global, most: u32, want: (u32, u32)) -> Result<bool, TaskFault> {
+    let task = task_of(alloc, &BACK_AND_FORTH)?;
+    Ok(counts(alloc, &task, most) == Ok(want))
+}
+
 #[test]
-fn as_many_atoms_as_a_task_may_have(rt: HostRuntime) -> Result<(), Fail> {
-    let task = task_of(rt.alloc(), &BACK_AND_FORTH)?;
-    assert!(rt; is_too_large(rt.alloc(), &task, 65_532));
-    assert!(rt; is_too_large(rt.alloc(), &task, u32::MAX));
-    assert_eq!(rt; counts(rt.alloc(), &task, 65_531)?, (65_535, 131_062));
-    Ok(())
+fn as_many_atoms_as_a_task_may_have(rt: HostRuntime) {
+    assert!(rt; goes_too_far(rt.alloc(), 65_532) == Ok(true));
+    assert!(rt; goes_too_far(rt.alloc(), u32::MAX) == Ok(true));
+    assert!(rt; has_counts(rt.alloc(), 65_531, (65_535, 131_062)) == Ok(true));
 }
 
 /// The text of a task without atoms, up to its twenty actions.
@@ -230,10 +241,14 @@ fn twenty_step_task(alloc: Global) -> Result<Task, TaskFault> {
     read(alloc, text.as_slice())
 }
 
+// Whether that task is too large where this may be spent.
+fn steps_too_often(alloc: Global, most: u32) -> Result<bool, TaskFault> {
+    let task = twenty_step_task(alloc)?;
+    Ok(is_too_large(alloc, &task, most))
+}
+
 #[test]
-fn more_actions_than_a_task_may_have(rt: HostRuntime) -> Result<(), Fail> {
-    let task = twenty_step_task(rt.alloc())?;
-    assert!(rt; is_too_large(rt.alloc(), &task, 50_001));
-    assert!(rt; !is_too_large(rt.alloc(), &task, 50));
-    Ok(())
+fn more_actions_than_a_task_may_have(rt: HostRuntime) {
+    assert!(rt; steps_too_often(rt.alloc(), 50_001) == Ok(true));
+    assert!(rt; steps_too_often(rt.alloc(), 50) == Ok(false));
 }

@@ -6,8 +6,8 @@ use crate::texts::{BACK_AND_FORTH, task_of};
 use hv_bound::{PlanAnswer, PlanFault, PlanList, check_plan, read_plan};
 use hv_bytes::{MemoryShelf, SureShelf};
 use hv_task::Task;
+use hv_task_text::TaskFault;
 use std::alloc::{AllocError, Global};
-use std::test::Fail;
 
 const NAME: &str = "plan";
 
@@ -52,11 +52,10 @@ static STEPS: [(&str, &[u32]); 14] = [
 ];
 
 #[test]
-fn plan_files(rt: HostRuntime) -> Result<(), Fail> {
+fn plan_files(rt: HostRuntime) {
     for (text, want) in &STEPS {
-        assert!(rt; says(rt.alloc(), text, want)?, "file {text}");
+        assert!(rt; says(rt.alloc(), text, want) == Ok(true), "file {text}");
     }
-    Ok(())
 }
 
 /// Plan files, and their first fault.
@@ -80,11 +79,10 @@ static FAULTS: [(&str, PlanFault); 16] = [
 ];
 
 #[test]
-fn first_faults_of_plan_files(rt: HostRuntime) -> Result<(), Fail> {
+fn first_faults_of_plan_files(rt: HostRuntime) {
     for (text, want) in &FAULTS {
-        assert!(rt; fails(rt.alloc(), text, *want)?, "file {text}");
+        assert!(rt; fails(rt.alloc(), text, *want) == Ok(true), "file {text}");
     }
-    Ok(())
 }
 
 // A comment of so many bytes, and then these.
@@ -125,12 +123,11 @@ static LENGTHS: [(usize, &str, &str); 7] = [
 ];
 
 #[test]
-fn the_longest_plan_files(rt: HostRuntime) -> Result<(), Fail> {
+fn the_longest_plan_files(rt: HostRuntime) {
     for (bytes, rest, want) in &LENGTHS {
-        let told = is_told(rt.alloc(), *bytes, rest, want)?;
-        assert!(rt; told, "comment of {bytes} bytes");
+        let told = is_told(rt.alloc(), *bytes, rest, want);
+        assert!(rt; told == Ok(true), "comment of {bytes} bytes");
     }
-    Ok(())
 }
 
 // A shelf with a plan file of two steps whose call of this number fails.
@@ -148,19 +145,23 @@ fn fails_at(alloc: Global, call: u64) -> Result<bool, AllocError> {
 }
 
 #[test]
-fn failing_reads(rt: HostRuntime) -> Result<(), Fail> {
-    assert!(rt; fails_at(rt.alloc(), 1)?);
-    assert!(rt; fails_at(rt.alloc(), 2)?);
-    assert!(rt; fails_at(rt.alloc(), 3)?);
-    assert!(rt; !fails_at(rt.alloc(), 9)?);
-    Ok(())
+fn failing_reads(rt: HostRuntime) {
+    assert!(rt; fails_at(rt.alloc(), 1) == Ok(true));
+    assert!(rt; fails_at(rt.alloc(), 2) == Ok(true));
+    assert!(rt; fails_at(rt.alloc(), 3) == Ok(true));
+    assert!(rt; fails_at(rt.alloc(), 9) == Ok(false));
 }
 
-// What the plan file of these bytes is against the task, where it is read.
-fn checked(alloc: Global, task: &Task, text: &[u8]) -> Result<Option<PlanAnswer>, AllocError> {
-    match read(alloc, text)? {
-        Ok(list) => Ok(Some(check_plan(alloc, task, list.as_slice())?)),
-        Err(_) => Ok(None),
+// Whether the plan file is read, and is this against the task.
+fn is_checked(
+    alloc: Global,
+    task: &Task,
+    text: &str,
+    want: PlanAnswer,
+) -> Result<bool, AllocError> {
+    match read(alloc, text.as_bytes())? {
+        Ok(list) => Ok(check_plan(alloc, task, list.as_slice())? == want),
+        Err(_) => Ok(false),
     }
 }
 
@@ -179,27 +180,30 @@ static ANSWERS: [(&str, PlanAnswer); 11] = [
     ("0\n1", PlanAnswer::NoGoal),
 ];
 
-#[test]
-fn steps_and_their_answers(rt: HostRuntime) -> Result<(), Fail> {
-    let task = task_of(rt.alloc(), &BACK_AND_FORTH)?;
-    for (text, want) in &ANSWERS {
-        let answer = checked(rt.alloc(), &task, text.as_bytes())?;
-        assert!(rt; answer == Some(*want), "plan {text}");
-    }
-    Ok(())
+// Whether the plan file is this against the task of two actions.
+fn is_answered(alloc: Global, text: &str, want: PlanAnswer) -> Result<bool, TaskFault> {
+    let task = task_of(alloc, &BACK_AND_FORTH)?;
+    Ok(is_checked(alloc, &task, text, want) == Ok(true))
 }
 
-// The list of one number.
-fn list_of(alloc: Global, number: u32) -> Result<PlanList, AllocError> {
+#[test]
+fn steps_and_their_answers(rt: HostRuntime) {
+    for (text, want) in &ANSWERS {
+        assert!(rt;
+            is_answered(rt.alloc(), text, *want) == Ok(true),
+            "plan {text}"
+        );
+    }
+}
+
+// Whether a list of one number has it alone.
+fn is_listed(alloc: Global, number: u32) -> Result<bool, AllocError> {
     let mut list = PlanList::new(alloc);
     list.push(number)?;
-    Ok(list)
+    Ok(list.len() == 1 && list.as_slice() == [number].as_slice())
 }
 
 #[test]
-fn a_list_of_one_step(rt: HostRuntime) -> Result<(), Fail> {
-    let list = list_of(rt.alloc(), u32::MAX)?;
-    assert_eq!(rt; list.len(), 1);
-    assert_eq!(rt; list.as_slice(), [u32::MAX].as_slice());
-    Ok(())
+fn a_list_of_one_step(rt: HostRuntime) {
+    assert!(rt; is_listed(rt.alloc(), u32::MAX) == Ok(true));
 }

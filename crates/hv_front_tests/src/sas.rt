@@ -9,7 +9,6 @@ use hv_sas::{Sas, SasFault, read_sas, to_strips};
 use hv_task::Task;
 use hv_task_text::write_task;
 use std::alloc::{AllocError, Global};
-use std::test::Fail;
 
 const NAME: &str = "sas";
 
@@ -129,110 +128,130 @@ static KEY: [TextRow; 73] = [
     ("0", "axioms", false),
 ];
 
+/// What is answered to a file: that it is read, or a fault, with its line and its word.
+enum SasAnswer {
+    Read,
+    Place(u64, &'static str),
+    Unsupported(u64, &'static str),
+    Limit(u64, &'static str),
+}
+
 /// A line of the switch, what is in its place, and the answer.
-static SPELLINGS: [(usize, &str, &str); 79] = [
-    (0, "", "read"),
-    (1, "begin", "place 1 version"),
-    (1, "begin_version ", "place 1 version"),
-    (2, "4", "unsupported 2 version"),
-    (2, "999999999999999999", "unsupported 2 version"),
-    (2, "1000000000000000000", "place 2 version"),
-    (2, "03", "place 2 version"),
-    (2, "3 ", "place 2 version"),
-    (2, "", "place 2 version"),
-    (3, "begin_metric", "place 3 version"),
-    (4, "begin_version", "place 4 metric"),
-    (5, "1", "read"),
-    (5, "2", "place 5 metric"),
-    (5, "00", "place 5 metric"),
-    (6, "end", "place 6 metric"),
-    (7, "x", "place 7 variables"),
-    (7, "0", "place 8 mutexes"),
-    (7, "2", "place 15 variable"),
-    (8, "begin", "place 8 variable"),
-    (9, "", "read"),
-    (9, " end_variable\t", "read"),
-    (10, "0", "unsupported 10 layer"),
-    (10, "7", "unsupported 10 layer"),
-    (10, "-2", "place 10 variable"),
-    (10, "01", "place 10 variable"),
-    (11, "0", "place 11 variable"),
-    (11, "x", "place 11 variable"),
-    (11, "65535", "place 32 variable"),
-    (11, "65536", "limit 11 values"),
-    (11, "999999999999999999", "limit 11 values"),
-    (11, "1000000000000000000", "place 11 variable"),
-    (11, "3", "place 15 variable"),
-    (11, "1", "place 13 variable"),
-    (14, "end", "place 14 variable"),
-    (15, "x", "place 15 mutexes"),
-    (15, "1", "place 16 mutex"),
+static SPELLINGS: [(usize, &str, SasAnswer); 79] = [
+    (0, "", SasAnswer::Read),
+    (1, "begin", SasAnswer::Place(1, "version")),
+    (1, "begin_version ", SasAnswer::Place(1, "version")),
+    (2, "4", SasAnswer::Unsupported(2, "version")),
+    (
+        2,
+        "999999999999999999",
+        SasAnswer::Unsupported(2, "version"),
+    ),
+    (2, "1000000000000000000", SasAnswer::Place(2, "version")),
+    (2, "03", SasAnswer::Place(2, "version")),
+    (2, "3 ", SasAnswer::Place(2, "version")),
+    (2, "", SasAnswer::Place(2, "version")),
+    (3, "begin_metric", SasAnswer::Place(3, "version")),
+    (4, "begin_version", SasAnswer::Place(4, "metric")),
+    (5, "1", SasAnswer::Read),
+    (5, "2", SasAnswer::Place(5, "metric")),
+    (5, "00", SasAnswer::Place(5, "metric")),
+    (6, "end", SasAnswer::Place(6, "metric")),
+    (7, "x", SasAnswer::Place(7, "variables")),
+    (7, "0", SasAnswer::Place(8, "mutexes")),
+    (7, "2", SasAnswer::Place(15, "variable")),
+    (8, "begin", SasAnswer::Place(8, "variable")),
+    (9, "", SasAnswer::Read),
+    (9, " end_variable\t", SasAnswer::Read),
+    (10, "0", SasAnswer::Unsupported(10, "layer")),
+    (10, "7", SasAnswer::Unsupported(10, "layer")),
+    (10, "-2", SasAnswer::Place(10, "variable")),
+    (10, "01", SasAnswer::Place(10, "variable")),
+    (11, "0", SasAnswer::Place(11, "variable")),
+    (11, "x", SasAnswer::Place(11, "variable")),
+    (11, "65535", SasAnswer::Place(32, "variable")),
+    (11, "65536", SasAnswer::Limit(11, "values")),
+    (11, "999999999999999999", SasAnswer::Limit(11, "values")),
+    (11, "1000000000000000000", SasAnswer::Place(11, "variable")),
+    (11, "3", SasAnswer::Place(15, "variable")),
+    (11, "1", SasAnswer::Place(13, "variable")),
+    (14, "end", SasAnswer::Place(14, "variable")),
+    (15, "x", SasAnswer::Place(15, "mutexes")),
+    (15, "1", SasAnswer::Place(16, "mutex")),
     (
         15,
         "1\nbegin_mutex_group\n2\n0 0\n0 1\nend_mutex_group",
-        "read",
+        SasAnswer::Read,
     ),
-    (15, "1\nbegin_mutex_group\n-1", "place 17 mutex"),
+    (
+        15,
+        "1\nbegin_mutex_group\n-1",
+        SasAnswer::Place(17, "mutex"),
+    ),
     (
         15,
         "1\nbegin_mutex_group\n1\n0 2\nend_mutex_group",
-        "place 18 mutex",
+        SasAnswer::Place(18, "mutex"),
     ),
     (
         15,
         "1\nbegin_mutex_group\n1\n1 0\nend_mutex_group",
-        "place 18 mutex",
+        SasAnswer::Place(18, "mutex"),
     ),
-    (15, "1\nbegin_mutex_group\n1\n0 1\nend", "place 19 mutex"),
+    (
+        15,
+        "1\nbegin_mutex_group\n1\n0 1\nend",
+        SasAnswer::Place(19, "mutex"),
+    ),
     (
         15,
         "2\nbegin_mutex_group\n0\nend_mutex_group",
-        "place 19 mutex",
+        SasAnswer::Place(19, "mutex"),
     ),
-    (16, "end_state", "place 16 state"),
-    (17, "2", "place 17 state"),
-    (17, "-1", "place 17 state"),
-    (18, "1", "place 18 state"),
-    (19, "begin", "place 19 goal"),
-    (20, "-1", "place 20 goal"),
-    (20, "0", "place 21 goal"),
-    (21, "0 2", "place 21 goal"),
-    (21, "1 0", "place 21 goal"),
-    (21, "0  0", "place 21 goal"),
-    (21, "0", "place 21 goal"),
-    (21, "0 0 0", "place 21 goal"),
-    (22, "end", "place 22 goal"),
-    (23, "1000001", "limit 23 operators"),
-    (23, "1000000", "place 31 operator"),
-    (23, "x", "place 23 operators"),
-    (24, "begin", "place 24 operator"),
-    (26, "1\n0 1", "read"),
-    (26, "1", "place 27 operator"),
-    (27, "2\n0 0 -1 1", "unsupported 29 twice"),
-    (27, "2\n0 0 -1 2", "place 28 operator"),
-    (28, "1 0 1 0 1 0", "unsupported 28 condition"),
-    (28, "1", "unsupported 28 condition"),
-    (28, "0 0 -1 0", "read"),
-    (28, "0 0 2 0", "place 28 operator"),
-    (28, "0 0 1 2", "place 28 operator"),
-    (28, "0 0 1", "place 28 operator"),
-    (28, "0 0 1 0 0", "place 28 operator"),
-    (28, "0 1 1 0", "place 28 operator"),
-    (28, "x 0 1 0", "place 28 operator"),
-    (29, "4294967295", "read"),
-    (29, "4294967296", "limit 29 cost"),
-    (29, "-1", "place 29 operator"),
-    (30, "end", "place 30 operator"),
-    (31, "1", "unsupported 31 axiom"),
-    (31, "x", "place 31 axioms"),
-    (31, "0\n", "place 32 end"),
+    (16, "end_state", SasAnswer::Place(16, "state")),
+    (17, "2", SasAnswer::Place(17, "state")),
+    (17, "-1", SasAnswer::Place(17, "state")),
+    (18, "1", SasAnswer::Place(18, "state")),
+    (19, "begin", SasAnswer::Place(19, "goal")),
+    (20, "-1", SasAnswer::Place(20, "goal")),
+    (20, "0", SasAnswer::Place(21, "goal")),
+    (21, "0 2", SasAnswer::Place(21, "goal")),
+    (21, "1 0", SasAnswer::Place(21, "goal")),
+    (21, "0  0", SasAnswer::Place(21, "goal")),
+    (21, "0", SasAnswer::Place(21, "goal")),
+    (21, "0 0 0", SasAnswer::Place(21, "goal")),
+    (22, "end", SasAnswer::Place(22, "goal")),
+    (23, "1000001", SasAnswer::Limit(23, "operators")),
+    (23, "1000000", SasAnswer::Place(31, "operator")),
+    (23, "x", SasAnswer::Place(23, "operators")),
+    (24, "begin", SasAnswer::Place(24, "operator")),
+    (26, "1\n0 1", SasAnswer::Read),
+    (26, "1", SasAnswer::Place(27, "operator")),
+    (27, "2\n0 0 -1 1", SasAnswer::Unsupported(29, "twice")),
+    (27, "2\n0 0 -1 2", SasAnswer::Place(28, "operator")),
+    (28, "1 0 1 0 1 0", SasAnswer::Unsupported(28, "condition")),
+    (28, "1", SasAnswer::Unsupported(28, "condition")),
+    (28, "0 0 -1 0", SasAnswer::Read),
+    (28, "0 0 2 0", SasAnswer::Place(28, "operator")),
+    (28, "0 0 1 2", SasAnswer::Place(28, "operator")),
+    (28, "0 0 1", SasAnswer::Place(28, "operator")),
+    (28, "0 0 1 0 0", SasAnswer::Place(28, "operator")),
+    (28, "0 1 1 0", SasAnswer::Place(28, "operator")),
+    (28, "x 0 1 0", SasAnswer::Place(28, "operator")),
+    (29, "4294967295", SasAnswer::Read),
+    (29, "4294967296", SasAnswer::Limit(29, "cost")),
+    (29, "-1", SasAnswer::Place(29, "operator")),
+    (30, "end", SasAnswer::Place(30, "operator")),
+    (31, "1", SasAnswer::Unsupported(31, "axiom")),
+    (31, "x", SasAnswer::Place(31, "axioms")),
+    (31, "0\n", SasAnswer::Place(32, "end")),
 ];
 
 /// How many values the second variable of the key has, beside three of the first, and the answer.
-static SUMS: [(&str, &str); 3] = [
-    ("2", "read"),
-    ("65532", "place 74 variable"),
-    ("65533", "limit 19 values"),
+static SUMS: [(&str, SasAnswer); 3] = [
+    ("2", SasAnswer::Read),
+    ("65532", SasAnswer::Place(74, "variable")),
+    ("65533", SasAnswer::Limit(19, "values")),
 ];
 
 // Puts the line and an LF last.
@@ -269,33 +288,30 @@ fn read(alloc: Global, text: &[u8], limits: Limits) -> Result<Sas, SasFault>
     }
 }
 
-// The fault, in the words of the program.
-fn told(alloc: Global, fault: SasFault) -> Result<String, AllocError> {
-    match fault {
-        SasFault::Place(line, kind) => format!(in alloc; "place {line} {}", kind.word()),
-        SasFault::Unsupported(line, which) => {
-            format!(in alloc; "unsupported {line} {}", which.word())
+// Whether this is the fault of the answer.
+fn is_told(fault: SasFault, want: &SasAnswer) -> bool {
+    match (fault, want) {
+        (SasFault::Place(line, kind), SasAnswer::Place(at, word)) => {
+            line == *at && kind.word() == *word
         }
-        SasFault::Limit(line, limit) => format!(in alloc; "limit {line} {}", limit.word()),
-        SasFault::ReadFault => format!(in alloc; "read fault"),
-        SasFault::Memory => Err(AllocError),
+        (SasFault::Unsupported(line, which), SasAnswer::Unsupported(at, word)) => {
+            line == *at && which.word() == *word
+        }
+        (SasFault::Limit(line, limit), SasAnswer::Limit(at, word)) => {
+            line == *at && limit.word() == *word
+        }
+        _ => false,
     }
 }
 
-// Whether the fault is told so.
-fn is_told(alloc: Global, fault: SasFault, want: &str) -> Result<bool, AllocError> {
-    let told = told(alloc, fault)?;
-    Ok(told.as_str() == want)
-}
-
-// Whether the text is answered so, in the words of the program.
-fn is_answered(alloc: Global, text: &[u8], limits: Limits, want: &str) -> Result<bool, AllocError>
+// Whether the text is answered so.
+fn is_answered(alloc: Global, text: &[u8], limits: Limits, want: &SasAnswer) -> bool
     requires line { limits.line ≤ 2 ^ 62 }
     requires file { limits.file ≤ 2 ^ 62 }
 {
     match read(alloc, text, limits).err() {
-        None => Ok(want == "read"),
-        Some(fault) => is_told(alloc, fault, want),
+        None => matches!(want, SasAnswer::Read),
+        Some(fault) => is_told(fault, want),
     }
 }
 
@@ -306,31 +322,50 @@ fn tells(
     number: usize,
     line: &str,
     limits: Limits,
-    want: &str,
+    want: &SasAnswer,
 ) -> Result<bool, AllocError>
     requires line { limits.line ≤ 2 ^ 62 }
     requires file { limits.file ≤ 2 ^ 62 }
 {
     let text = spelled(alloc, rows, number, line)?;
-    is_answered(alloc, text.as_slice(), limits, want)
+    Ok(is_answered(alloc, text.as_slice(), limits, want))
 }
 
 #[test]
-fn spellings_of_a_translator_file(rt: HostRuntime) -> Result<(), Fail> {
+fn spellings_of_a_translator_file(rt: HostRuntime) {
     for (number, line, want) in &SPELLINGS {
-        let told = tells(rt.alloc(), &SWITCH, *number, line, Limits::STANDARD, want)?;
-        assert!(rt; told, "line {number} as {line}");
+        let told = tells(rt.alloc(), &SWITCH, *number, line, Limits::STANDARD, want);
+        assert!(rt; told == Ok(true), "line {number} as {line}");
+    }
+}
+
+#[test]
+fn sums_of_values(rt: HostRuntime) {
+    for (line, want) in &SUMS {
+        let told = tells(rt.alloc(), &KEY, 19, line, Limits::STANDARD, want);
+        assert!(rt; told == Ok(true), "{line} values");
+    }
+}
+
+// Puts so many first lines last.
+fn put_lines(text: &mut Vec<u8>, rows: &[TextRow], count: usize) -> Result<(), AllocError> {
+    for row in rows.iter().take(count) {
+        push_line(text, row.0)?;
     }
     Ok(())
 }
 
-#[test]
-fn sums_of_values(rt: HostRuntime) -> Result<(), Fail> {
-    for (line, want) in &SUMS {
-        let told = tells(rt.alloc(), &KEY, 19, line, Limits::STANDARD, want)?;
-        assert!(rt; told, "{line} values");
+// Puts the first bytes of the line at this place last.
+fn put_part_at(
+    text: &mut Vec<u8>,
+    rows: &[TextRow],
+    place: usize,
+    part: usize,
+) -> Result<(), AllocError> {
+    match rows.get(place) {
+        Some(row) => put_part(text, row.0, part),
+        None => Ok(()),
     }
-    Ok(())
 }
 
 // The beginning of the text that ends after so many bytes of the line at this place.
@@ -341,13 +376,8 @@ fn begun(
     part: usize,
 ) -> Result<Vec<u8>, AllocError> {
     let mut text = Vec::new(alloc);
-    for row in rows.iter().take(place) {
-        push_line(&mut text, row.0)?;
-    }
-    match rows.get(place) {
-        Some(row) => put_part(&mut text, row.0, part)?,
-        None => (),
-    }
+    put_lines(&mut text, rows, place)?;
+    put_part_at(&mut text, rows, place, part)?;
     Ok(text)
 }
 
@@ -436,10 +466,9 @@ fn first_wrong_line(alloc: Global, rows: &[TextRow]) -> Result<Option<usize>, Al
 }
 
 #[test]
-fn cut_texts(rt: HostRuntime) -> Result<(), Fail> {
-    assert_eq!(rt; first_wrong_line(rt.alloc(), &SWITCH)?, None);
-    assert_eq!(rt; first_wrong_line(rt.alloc(), &KEY)?, None);
-    Ok(())
+fn cut_texts(rt: HostRuntime) {
+    assert!(rt; first_wrong_line(rt.alloc(), &SWITCH) == Ok(None));
+    assert!(rt; first_wrong_line(rt.alloc(), &KEY) == Ok(None));
 }
 
 // A name of so many bytes.
@@ -452,7 +481,12 @@ fn name_of(alloc: Global, length: usize) -> Result<String, AllocError> {
 }
 
 // Whether the switch is answered so where the line is a name of so many bytes.
-fn tells_name(alloc: Global, number: usize, length: usize, want: &str) -> Result<bool, AllocError> {
+fn tells_name(
+    alloc: Global,
+    number: usize,
+    length: usize,
+    want: &SasAnswer,
+) -> Result<bool, AllocError> {
     let name = name_of(alloc, length)?;
     tells(
         alloc,
@@ -464,30 +498,37 @@ fn tells_name(alloc: Global, number: usize, length: usize, want: &str) -> Result
     )
 }
 
+// A line of the switch, how long the name is that is in its place, and the answer.
+static NAMES: [(usize, usize, SasAnswer); 6] = [
+    (9, 1024, SasAnswer::Read),
+    (9, 1025, SasAnswer::Limit(9, "name")),
+    (13, 1024, SasAnswer::Read),
+    (13, 1025, SasAnswer::Limit(13, "name")),
+    (25, 1024, SasAnswer::Read),
+    (25, 1025, SasAnswer::Limit(25, "name")),
+];
+
 #[test]
-fn lengths_of_names(rt: HostRuntime) -> Result<(), Fail> {
-    assert!(rt; tells_name(rt.alloc(), 9, 1024, "read")?);
-    assert!(rt; tells_name(rt.alloc(), 9, 1025, "limit 9 name")?);
-    assert!(rt; tells_name(rt.alloc(), 13, 1024, "read")?);
-    assert!(rt; tells_name(rt.alloc(), 13, 1025, "limit 13 name")?);
-    assert!(rt; tells_name(rt.alloc(), 25, 1024, "read")?);
-    assert!(rt; tells_name(rt.alloc(), 25, 1025, "limit 25 name")?);
-    Ok(())
+fn lengths_of_names(rt: HostRuntime) {
+    for (number, length, want) in &NAMES {
+        let told = tells_name(rt.alloc(), *number, *length, want);
+        assert!(rt; told == Ok(true), "line {number} of {length} bytes");
+    }
 }
 
 // The limits of a line and of a file, and the answer of the switch.
-static LENGTHS: [(u8, u16, &str); 7] = [
-    (17, 1000, "read"),
-    (16, 1000, "limit 13 long"),
-    (13, 1000, "limit 8 long"),
-    (12, 1000, "limit 1 long"),
-    (17, 12, "limit 1 long"),
-    (17, 14, "limit 2 long"),
-    (17, 15, "limit 3 long"),
+static LENGTHS: [(u8, u16, SasAnswer); 7] = [
+    (17, 1000, SasAnswer::Read),
+    (16, 1000, SasAnswer::Limit(13, "long")),
+    (13, 1000, SasAnswer::Limit(8, "long")),
+    (12, 1000, SasAnswer::Limit(1, "long")),
+    (17, 12, SasAnswer::Limit(1, "long")),
+    (17, 14, SasAnswer::Limit(2, "long")),
+    (17, 15, SasAnswer::Limit(3, "long")),
 ];
 
 // Whether the switch is answered so within the limits.
-fn tells_within(alloc: Global, line: u8, file: u16, want: &str) -> Result<bool, AllocError> {
+fn tells_within(alloc: Global, line: u8, file: u16, want: &SasAnswer) -> Result<bool, AllocError> {
     let limits = Limits {
         line: line as u64,
         file: file as u64,
@@ -496,12 +537,11 @@ fn tells_within(alloc: Global, line: u8, file: u16, want: &str) -> Result<bool, 
 }
 
 #[test]
-fn lengths_of_lines_and_files(rt: HostRuntime) -> Result<(), Fail> {
+fn lengths_of_lines_and_files(rt: HostRuntime) {
     for (line, file, want) in &LENGTHS {
-        let told = tells_within(rt.alloc(), *line, *file, want)?;
-        assert!(rt; told, "line {line} file {file}");
+        let told = tells_within(rt.alloc(), *line, *file, want);
+        assert!(rt; told == Ok(true), "line {line} file {file}");
     }
-    Ok(())
 }
 
 // A shelf with the text whose call of this number fails.
@@ -529,20 +569,21 @@ fn fails_at(alloc: Global, call: u64) -> Result<bool, SasFault> {
 }
 
 #[test]
-fn failing_reads(rt: HostRuntime) -> Result<(), Fail> {
+fn failing_reads(rt: HostRuntime) {
     // The open, three reads of up to 100 bytes, and the read of no bytes.
-    assert!(rt; fails_at(rt.alloc(), 1)?);
-    assert!(rt; fails_at(rt.alloc(), 2)?);
-    assert!(rt; fails_at(rt.alloc(), 4)?);
-    assert!(rt; fails_at(rt.alloc(), 5)?);
-    assert!(rt; !fails_at(rt.alloc(), 6)?);
-    Ok(())
+    assert!(rt; fails_at(rt.alloc(), 1) == Ok(true));
+    assert!(rt; fails_at(rt.alloc(), 2) == Ok(true));
+    assert!(rt; fails_at(rt.alloc(), 4) == Ok(true));
+    assert!(rt; fails_at(rt.alloc(), 5) == Ok(true));
+    assert!(rt; fails_at(rt.alloc(), 6) == Ok(false));
 }
 
-/// The task of the switch: the lines before its cost, and behind it.
+/// The task of the switch: the lines before its cost, and the last ones.
 const LIT: &str =
     "begin_atoms:2\nAtom lit()\nNegatedAtom lit()\nend_atoms\nbegin_init\n1\nend_init\n\
     begin_goal\n0\nend_goal\nbegin_actions:1\nbegin_action\nswitch\n";
+
+const REST: &str = "end_action\nend_actions\n";
 
 /// What is in the place of a line of the switch, and the lines of the action behind its name.
 static MADE: [(usize, &str, &str); 4] = [
@@ -565,22 +606,31 @@ const KEY_TASK: &str = "begin_atoms:5\nAtom at(left)\nAtom at(middle)\nAtom at(r
     begin_action\njump right\ncost:0\nPRE:3\nADD:2\nDEL:0\nDEL:1\nend_action\n\
     begin_action\nreset\ncost:7\nPRE:2\nADD:0\nADD:4\nDEL:2\nDEL:3\nend_action\nend_actions\n";
 
-// Whether the task has this text.
-fn is_written(alloc: Global, task: &Task, want: &[u8]) -> Result<bool, AllocError> {
-    let text = write_task(alloc, task)?;
-    Ok(text.as_bytes() == want)
+// Whether the text is these parts, one behind the other.
+fn is_joined(text: &[u8], parts: [&str; 3]) -> bool {
+    let [first, second, third] = parts;
+    match text.strip_prefix(first.as_bytes()) {
+        Some(rest) => rest.strip_prefix(second.as_bytes()) == Some(third.as_bytes()),
+        None => false,
+    }
 }
 
-// Whether the task that is made of this one has this text.
-fn is_made(alloc: Global, sas: &Sas, want: &[u8]) -> Result<bool, AllocError>
+// Whether the task has the text of these parts.
+fn is_written(alloc: Global, task: &Task, want: [&str; 3]) -> Result<bool, AllocError> {
+    let text = write_task(alloc, task)?;
+    Ok(is_joined(text.as_bytes(), want))
+}
+
+// Whether the task that is made of this one has the text of these parts.
+fn is_made(alloc: Global, sas: &Sas, want: [&str; 3]) -> Result<bool, AllocError>
     requires { IsSoundSas sas.now }
 {
     let task = to_strips(alloc, sas)?;
     is_written(alloc, &task, want)
 }
 
-// Whether the translator file is read, and makes a task of this text.
-fn makes(alloc: Global, text: &[u8], want: &[u8]) -> Result<bool, SasFault> {
+// Whether the translator file is read, and makes a task of the text of these parts.
+fn makes(alloc: Global, text: &[u8], want: [&str; 3]) -> Result<bool, SasFault> {
     let sas = read(alloc, text, Limits::STANDARD)?;
     match is_made(alloc, &sas, want) {
         Ok(yes) => Ok(yes),
@@ -588,32 +638,25 @@ fn makes(alloc: Global, text: &[u8], want: &[u8]) -> Result<bool, SasFault> {
     }
 }
 
-// The text of the switch's task with these lines in its action.
-fn lit(alloc: Global, action: &str) -> Result<String, AllocError> {
-    format!(in alloc; "{LIT}{action}end_action\nend_actions\n")
-}
-
 // Whether the switch with this in place of a line makes the task with these lines in its action.
 fn switch_makes(alloc: Global, number: usize, line: &str, action: &str) -> Result<bool, SasFault> {
     let text = spelled(alloc, &SWITCH, number, line)?;
-    let want = lit(alloc, action)?;
-    makes(alloc, text.as_slice(), want.as_bytes())
+    makes(alloc, text.as_slice(), [LIT, action, REST])
 }
 
 // Whether the robot and the key make their task.
 fn key_makes(alloc: Global) -> Result<bool, SasFault> {
     let text = spelled(alloc, &KEY, 0, "")?;
-    makes(alloc, text.as_slice(), KEY_TASK.as_bytes())
+    makes(alloc, text.as_slice(), [KEY_TASK, "", ""])
 }
 
 #[test]
-fn texts_of_made_tasks(rt: HostRuntime) -> Result<(), Fail> {
+fn texts_of_made_tasks(rt: HostRuntime) {
     for (number, line, action) in &MADE {
-        let made = switch_makes(rt.alloc(), *number, line, action)?;
-        assert!(rt; made, "line {number} as {line}");
+        let made = switch_makes(rt.alloc(), *number, line, action);
+        assert!(rt; made == Ok(true), "line {number} as {line}");
     }
-    assert!(rt; key_makes(rt.alloc())?);
-    Ok(())
+    assert!(rt; key_makes(rt.alloc()) == Ok(true));
 }
 
 /// Lists of operators, and whether they bring the key to the right room.
@@ -655,7 +698,6 @@ fn key_has_plans(alloc: Global) -> Result<bool, SasFault> {
 }
 
 #[test]
-fn plans_of_a_made_task(rt: HostRuntime) -> Result<(), Fail> {
-    assert!(rt; key_has_plans(rt.alloc())?);
-    Ok(())
+fn plans_of_a_made_task(rt: HostRuntime) {
+    assert!(rt; key_has_plans(rt.alloc()) == Ok(true));
 }

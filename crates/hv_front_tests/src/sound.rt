@@ -6,7 +6,6 @@ use hv_sas::{
 };
 use hv_task::Name;
 use std::alloc::{AllocError, Global};
-use std::test::Fail;
 
 /// An effect of a row: the variable, the value before, where there is one, and the value after.
 type EffectRow = (u32, Option<u32>, u32);
@@ -54,55 +53,57 @@ static TASKS: [TaskRow; 15] = [
     ),
 ];
 
-// So many names.
-fn names_of(alloc: Global, count: u8) -> Result<Names, AllocError> {
-    let mut names = Names::new(alloc);
+// Puts so many names last.
+fn put_names(alloc: Global, names: &mut Names, count: u8) -> Result<(), AllocError> {
     for _ in 0..count {
         names.push(Name::new(alloc, b"value")?)?;
     }
-    Ok(names)
+    Ok(())
 }
 
-// A variable with so many values.
-fn variable_of(alloc: Global, count: u8) -> Result<SasVariable, AllocError> {
-    let values = names_of(alloc, count)?;
-    let name = Name::new(alloc, b"variable")?;
-    Ok(SasVariable { name, values })
+// Puts a variable with so many values last.
+fn put_variable(alloc: Global, variables: &mut Variables, count: u8) -> Result<(), AllocError> {
+    let mut variable = SasVariable {
+        name: Name::new(alloc, b"variable")?,
+        values: Names::new(alloc),
+    };
+    put_names(alloc, &mut variable.values, count)?;
+    variables.push(variable)
 }
 
-// Variables with so many values each.
-fn variables_of(alloc: Global, counts: &[u8]) -> Result<Variables, AllocError> {
-    let mut variables = Variables::new(alloc);
+// Puts variables with so many values each last.
+fn put_variables(
+    alloc: Global,
+    variables: &mut Variables,
+    counts: &[u8],
+) -> Result<(), AllocError> {
     for count in counts {
-        variables.push(variable_of(alloc, *count)?)?;
+        put_variable(alloc, variables, *count)?;
     }
-    Ok(variables)
+    Ok(())
 }
 
-// The list of these values.
-fn values_of(alloc: Global, list: &[u32]) -> Result<Values, AllocError> {
-    let mut values = Values::new(alloc);
+// Puts these values last.
+fn put_values(values: &mut Values, list: &[u32]) -> Result<(), AllocError> {
     for value in list {
         values.push(*value)?;
     }
-    Ok(values)
+    Ok(())
 }
 
-// The list of these facts.
-fn facts_of(alloc: Global, pairs: &[(u32, u32)]) -> Result<Facts, AllocError> {
-    let mut facts = Facts::new(alloc);
+// Puts these facts last.
+fn put_facts(facts: &mut Facts, pairs: &[(u32, u32)]) -> Result<(), AllocError> {
     for (var, value) in pairs {
         facts.push(Fact {
             var: *var,
             value: *value,
         })?;
     }
-    Ok(facts)
+    Ok(())
 }
 
-// The list of these effects.
-fn effects_of(alloc: Global, rows: &[EffectRow]) -> Result<Effects, AllocError> {
-    let mut effects = Effects::new(alloc);
+// Puts these effects last.
+fn put_effects(effects: &mut Effects, rows: &[EffectRow]) -> Result<(), AllocError> {
     for (var, before, after) in rows {
         effects.push(Effect {
             var: *var,
@@ -110,50 +111,55 @@ fn effects_of(alloc: Global, rows: &[EffectRow]) -> Result<Effects, AllocError> 
             after: *after,
         })?;
     }
-    Ok(effects)
+    Ok(())
 }
 
-// An operator with these prevail conditions and effects.
-fn operator_of(
-    alloc: Global,
+// Puts these prevail conditions and effects last.
+fn put_changes(
+    operator: &mut SasOperator,
     prevail: &[(u32, u32)],
     effects: &[EffectRow],
-) -> Result<SasOperator, AllocError> {
-    let prevail = facts_of(alloc, prevail)?;
-    let effects = effects_of(alloc, effects)?;
-    let name = Name::new(alloc, b"operator")?;
-    Ok(SasOperator {
-        name,
-        prevail,
-        effects,
+) -> Result<(), AllocError> {
+    put_facts(&mut operator.prevail, prevail)?;
+    put_effects(&mut operator.effects, effects)
+}
+
+// Puts an operator with these prevail conditions and effects last.
+fn put_operator(
+    alloc: Global,
+    operators: &mut Operators,
+    prevail: &[(u32, u32)],
+    effects: &[EffectRow],
+) -> Result<(), AllocError> {
+    let mut operator = SasOperator {
+        name: Name::new(alloc, b"operator")?,
+        prevail: Facts::new(alloc),
+        effects: Effects::new(alloc),
         cost: 1,
-    })
+    };
+    put_changes(&mut operator, prevail, effects)?;
+    operators.push(operator)
 }
 
-// The list of this operator alone.
-fn operators_of(
-    alloc: Global,
-    prevail: &[(u32, u32)],
-    effects: &[EffectRow],
-) -> Result<Operators, AllocError> {
-    let mut operators = Operators::new(alloc);
-    operators.push(operator_of(alloc, prevail, effects)?)?;
-    Ok(operators)
+// Puts last what the row has.
+fn put_row(alloc: Global, sas: &mut Sas, row: &TaskRow) -> Result<(), AllocError> {
+    put_variables(alloc, &mut sas.variables, row.0)?;
+    put_values(&mut sas.start, row.1)?;
+    put_facts(&mut sas.goal, row.2)?;
+    put_operator(alloc, &mut sas.operators, row.3, row.4)
 }
 
 // The task of a row.
 fn task_of(alloc: Global, row: &TaskRow) -> Result<Sas, AllocError> {
-    let variables = variables_of(alloc, row.0)?;
-    let start = values_of(alloc, row.1)?;
-    let goal = facts_of(alloc, row.2)?;
-    let operators = operators_of(alloc, row.3, row.4)?;
-    Ok(Sas {
+    let mut sas = Sas {
         metric: false,
-        variables,
-        start,
-        goal,
-        operators,
-    })
+        variables: Variables::new(alloc),
+        start: Values::new(alloc),
+        goal: Facts::new(alloc),
+        operators: Operators::new(alloc),
+    };
+    put_row(alloc, &mut sas, row)?;
+    Ok(sas)
 }
 
 // Whether a sound task makes one with its operator, and an unsound one is told.
@@ -172,9 +178,8 @@ fn is_row_right(alloc: Global, row: &TaskRow) -> Result<bool, AllocError> {
 }
 
 #[test]
-fn sound_tasks(rt: HostRuntime) -> Result<(), Fail> {
+fn sound_tasks(rt: HostRuntime) {
     for (place, row) in TASKS.iter().enumerate() {
-        assert!(rt; is_row_right(rt.alloc(), row)?, "row {place}");
+        assert!(rt; is_row_right(rt.alloc(), row) == Ok(true), "row {place}");
     }
-    Ok(())
 }

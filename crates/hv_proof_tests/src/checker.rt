@@ -1,7 +1,6 @@
 //! Proofs for a task with a key that is out of reach: a robot goes between two places, and the key
 //! is wanted.
-ghost use Rattle.std.specs.Prelude.{◌≡◌, ◌<◌, ◌≤◌};
-ghost use Rattle.hv_task.specs.Strips.{atoms};
+ghost use Rattle.std.specs.Prelude.{◌<◌, ◌≤◌};
 
 use crate::tasks::robot;
 use hv_bdd::Diagrams;
@@ -10,7 +9,6 @@ use hv_lines::Clash;
 use hv_task::Task;
 use std::alloc::{AllocError, Global};
 use std::process::Abort;
-use std::test::Fail;
 
 /// The proof of two states.
 pub(crate) const PROOF: [&str; 16] = [
@@ -62,24 +60,21 @@ fn accept(rt: &impl Abort, checker: &mut Checker<'_>) -> Result<(), AllocError> 
 }
 
 /// The same, by a fresh checker.
-fn accept_anew(
-    rt: &impl Abort,
-    alloc: Global,
-    task: &Task,
-    diagrams: &Diagrams,
-) -> Result<(), AllocError>
-    requires { diagrams.now.atoms ≡ atoms task.now }
-{
-    let mut checker = Checker::new(alloc, task, diagrams, 2)?;
+fn accept_anew(rt: &impl Abort, alloc: Global, task: &Task) -> Result<(), AllocError> {
+    let diagrams = Diagrams::none(alloc, task.atoms());
+    let mut checker = Checker::new(alloc, task, &diagrams, 2)?;
     accept(rt, &mut checker)
 }
 
+/// The same, of a new task.
+fn accept_for_robot(rt: &impl Abort, alloc: Global) -> Result<(), AllocError> {
+    let task = robot(alloc)?;
+    accept_anew(rt, alloc, &task)
+}
+
 #[test]
-fn accepts_the_listed_proof(rt: HostRuntime) -> Result<(), Fail> {
-    let task = robot(rt.alloc())?;
-    let diagrams = Diagrams::none(rt.alloc(), task.atoms());
-    accept_anew(&rt, rt.alloc(), &task, &diagrams)?;
-    Ok(())
+fn accepts_the_listed_proof(rt: HostRuntime) {
+    assert!(rt; accept_for_robot(&rt, rt.alloc()) == Ok(()));
 }
 
 /// Good lines, and the piece behind them.
@@ -174,16 +169,26 @@ fn refuse_lines(rt: &impl Abort, alloc: Global, task: &Task) -> Result<(), Alloc
     refuse_after(rt, alloc, task, 0, "e 0 h 1 1 2 0", &Reason::Family)
 }
 
-#[test]
-fn tells_the_first_bad_line(rt: HostRuntime) -> Result<(), Fail> {
-    let task = robot(rt.alloc())?;
-    refuse_lines(&rt, rt.alloc(), &task)?;
+/// The same, of a new task.
+fn refuse_lines_anew(rt: &impl Abort, alloc: Global) -> Result<(), AllocError> {
+    let task = robot(alloc)?;
+    refuse_lines(rt, alloc, &task)
+}
+
+/// A line that is too long is refused.
+fn refuse_long(rt: &impl Abort, alloc: Global) -> Result<(), AllocError> {
+    let task = robot(alloc)?;
     let long = Pieces {
         good: &[],
         bad: Piece::Long,
     };
-    refuse(&rt, rt.alloc(), &task, 2, long, &Reason::Long)?;
-    Ok(())
+    refuse(rt, alloc, &task, 2, long, &Reason::Long)
+}
+
+#[test]
+fn tells_the_first_bad_line(rt: HostRuntime) {
+    assert!(rt; refuse_lines_anew(&rt, rt.alloc()) == Ok(()));
+    assert!(rt; refuse_long(&rt, rt.alloc()) == Ok(()));
 }
 
 /// The first action leads out from the initial state.
@@ -211,9 +216,13 @@ fn refuse_progressions(rt: &impl Abort, alloc: Global, task: &Task) -> Result<()
     refuse(rt, alloc, task, 2, missing, &reason)
 }
 
+/// The same, of a new task.
+fn refuse_progressions_anew(rt: &impl Abort, alloc: Global) -> Result<(), AllocError> {
+    let task = robot(alloc)?;
+    refuse_progressions(rt, alloc, &task)
+}
+
 #[test]
-fn tells_what_is_not_good(rt: HostRuntime) -> Result<(), Fail> {
-    let task = robot(rt.alloc())?;
-    refuse_progressions(&rt, rt.alloc(), &task)?;
-    Ok(())
+fn tells_what_is_not_good(rt: HostRuntime) {
+    assert!(rt; refuse_progressions_anew(&rt, rt.alloc()) == Ok(()));
 }

@@ -1,8 +1,7 @@
 //! Closed proofs, fed to a checker piece by piece: what it answers to the two marks, and what it
 //! says of the pieces fed so far.
 
-ghost use Rattle.std.specs.Prelude.{◌≡◌, ◌<◌, ◌≤◌};
-ghost use Rattle.hv_task.specs.Strips.{atoms};
+ghost use Rattle.std.specs.Prelude.{◌<◌, ◌≤◌};
 
 use crate::checker::{PROOF, feed_good, is_refusal};
 use crate::tasks::robot;
@@ -11,7 +10,6 @@ use hv_checker::{Checker, End, Fed, Piece, Reason};
 use hv_task::Task;
 use std::alloc::{AllocError, Global};
 use std::process::Abort;
-use std::test::Fail;
 
 /// The answer to this line.
 fn feed_line(
@@ -112,33 +110,37 @@ fn refuse_pieces(rt: &impl Abort, alloc: Global, task: &Task) -> Result<(), Allo
 }
 
 /// The whole proof, by a fresh checker.
-fn accept_anew(
-    rt: &impl Abort,
-    alloc: Global,
-    task: &Task,
-    diagrams: &Diagrams,
-    budget: u64,
-) -> Result<(), AllocError>
-    requires over { diagrams.now.atoms ≡ atoms task.now }
+fn accept_anew(rt: &impl Abort, alloc: Global, task: &Task, budget: u64) -> Result<(), AllocError>
     requires some { 0 < budget }
     requires small { budget ≤ 16777216 }
 {
-    let mut checker = Checker::new(alloc, task, diagrams, budget)?;
+    let diagrams = Diagrams::none(alloc, task.atoms());
+    let mut checker = Checker::new(alloc, task, &diagrams, budget)?;
     accept_closed(rt, &mut checker)
 }
 
-#[test]
-fn accepts_a_closed_proof(rt: HostRuntime) -> Result<(), Fail> {
-    let task = robot(rt.alloc())?;
-    let diagrams = Diagrams::none(rt.alloc(), task.atoms());
-    accept_anew(&rt, rt.alloc(), &task, &diagrams, 2)?;
-    accept_anew(&rt, rt.alloc(), &task, &diagrams, 1000000)?;
-    Ok(())
+/// The same, of a new task.
+fn accept_for_robot(rt: &impl Abort, alloc: Global, budget: u64) -> Result<(), AllocError>
+    requires some { 0 < budget }
+    requires small { budget ≤ 16777216 }
+{
+    let task = robot(alloc)?;
+    accept_anew(rt, alloc, &task, budget)
 }
 
 #[test]
-fn refuses_what_is_not_in_a_closed_proof(rt: HostRuntime) -> Result<(), Fail> {
-    let task = robot(rt.alloc())?;
-    refuse_pieces(&rt, rt.alloc(), &task)?;
-    Ok(())
+fn accepts_a_closed_proof(rt: HostRuntime) {
+    assert!(rt; accept_for_robot(&rt, rt.alloc(), 2) == Ok(()));
+    assert!(rt; accept_for_robot(&rt, rt.alloc(), 1000000) == Ok(()));
+}
+
+/// The pieces are refused, of a new task.
+fn refuse_pieces_anew(rt: &impl Abort, alloc: Global) -> Result<(), AllocError> {
+    let task = robot(alloc)?;
+    refuse_pieces(rt, alloc, &task)
+}
+
+#[test]
+fn refuses_what_is_not_in_a_closed_proof(rt: HostRuntime) {
+    assert!(rt; refuse_pieces_anew(&rt, rt.alloc()) == Ok(()));
 }

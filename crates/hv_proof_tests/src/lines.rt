@@ -5,20 +5,18 @@ use hv_lines::{ActionList, Clash, Constant, Draft, Expr, Line, Reason, Statement
 use hv_sets::Clauses;
 use hv_task::{State, Task};
 use std::alloc::{AllocError, Global};
-use std::test::Fail;
+use std::process::Abort;
 
 // More lines than this no table has space for.
 const MOST_LINES: usize = 1 << 59;
 
-// Two sets with all actions between them, and a claim.
-fn four_lines(alloc: Global) -> Result<Table, Fail> {
-    let mut table = Table::new(alloc);
+// Puts two sets with all actions between them last, and a claim.
+fn put_four(rt: &impl Abort, table: &mut Table) -> Result<(), AllocError> {
     table.reserve(2)?;
-    add_set(&mut table, Expr::Constant(Constant::Goal))?;
-    add_all_actions(&mut table)?;
-    add_set(&mut table, Expr::After(0, 0))?;
-    add_claim(&mut table, Statement::Sub(1, 0), Word::B2, &[])?;
-    Ok(table)
+    add_set(rt, table, Expr::Constant(Constant::Goal))?;
+    add_all_actions(table)?;
+    add_set(rt, table, Expr::After(0, 0))?;
+    add_claim(rt, table, Statement::Sub(1, 0), Word::B2, &[])
 }
 
 // Whether these lines are found.
@@ -30,23 +28,26 @@ fn are_found(table: &Table) -> bool {
         && says(table, 0, Statement::Sub(1, 0), Word::B2, &[])
 }
 
-#[test]
-fn finds_lines(rt: HostRuntime) -> Result<(), Fail> {
-    let table = four_lines(rt.alloc())?;
-    assert!(rt; are_found(&table));
-    Ok(())
+// The same of a new table.
+fn four_are_found(rt: &impl Abort, alloc: Global) -> Result<bool, AllocError> {
+    let mut table = Table::new(alloc);
+    put_four(rt, &mut table)?;
+    Ok(are_found(&table))
 }
 
-// A constant, a formula, and sets of these.
-fn six_sets(alloc: Global) -> Result<Table, Fail> {
-    let mut table = Table::new(alloc);
-    add_set(&mut table, Expr::Constant(Constant::Start))?;
-    add_set(&mut table, Expr::Horn(Clauses::new(alloc)))?;
-    add_set(&mut table, Expr::Not(0))?;
-    add_set(&mut table, Expr::Not(2))?;
-    add_set(&mut table, Expr::Or(0, 1))?;
-    add_set(&mut table, Expr::Not(4))?;
-    Ok(table)
+#[test]
+fn finds_lines(rt: HostRuntime) {
+    assert!(rt; four_are_found(&rt, rt.alloc()) == Ok(true));
+}
+
+// Puts a constant, a formula, and sets of these last.
+fn put_six(rt: &impl Abort, alloc: Global, table: &mut Table) -> Result<(), AllocError> {
+    add_set(rt, table, Expr::Constant(Constant::Start))?;
+    add_set(rt, table, Expr::Horn(Clauses::new(alloc)))?;
+    add_set(rt, table, Expr::Not(0))?;
+    add_set(rt, table, Expr::Not(2))?;
+    add_set(rt, table, Expr::Or(0, 1))?;
+    add_set(rt, table, Expr::Not(4))
 }
 
 // Whether there is a set for each flag, and it is a literal exactly where the flag says so. The
@@ -59,19 +60,28 @@ fn are_literals(table: &Table, literals: &[bool]) -> bool {
     alike
 }
 
-#[test]
-fn tells_literals(rt: HostRuntime) -> Result<(), Fail> {
-    let table = six_sets(rt.alloc())?;
-    assert!(rt; are_literals(&table, &[true, true, true, false, false, false]));
-    Ok(())
+// Whether three of these sets are literals, in a new table.
+fn six_are_told(rt: &impl Abort, alloc: Global) -> Result<bool, AllocError> {
+    let mut table = Table::new(alloc);
+    put_six(rt, alloc, &mut table)?;
+    Ok(are_literals(&table, &[true, true, true, false, false, false]))
 }
 
 #[test]
-fn lists_actions(rt: HostRuntime) -> Result<(), Fail> {
-    let mut actions = ActionList::new(rt.alloc());
-    actions.push(3)?;
-    assert_eq!(rt; actions.as_slice(), [3].as_slice());
-    Ok(())
+fn tells_literals(rt: HostRuntime) {
+    assert!(rt; six_are_told(&rt, rt.alloc()) == Ok(true));
+}
+
+// Whether a list of one number has it alone.
+fn is_listed(alloc: Global, number: u32) -> Result<bool, AllocError> {
+    let mut actions = ActionList::new(alloc);
+    actions.push(number)?;
+    Ok(actions.as_slice() == [number].as_slice())
+}
+
+#[test]
+fn lists_actions(rt: HostRuntime) {
+    assert!(rt; is_listed(rt.alloc(), 3) == Ok(true));
 }
 
 // Whether these are the first five lines of a draft.
@@ -98,10 +108,9 @@ fn is_drafted(alloc: Global, task: &Task) -> Result<bool, AllocError> {
 }
 
 #[test]
-fn begins_with_five_lines(rt: HostRuntime) -> Result<(), Fail> {
+fn begins_with_five_lines(rt: HostRuntime) {
     let task = Task::new(rt.alloc());
-    assert!(rt; is_drafted(rt.alloc(), &task)?);
-    Ok(())
+    assert!(rt; is_drafted(rt.alloc(), &task) == Ok(true));
 }
 
 // Whether a copy of the reason is the same.
@@ -109,13 +118,22 @@ fn is_copied(alloc: Global, reason: &Reason) -> Result<bool, AllocError> {
     Ok(reason.copy(alloc)? == *reason)
 }
 
-#[test]
-fn copies_a_counterexample(rt: HostRuntime) -> Result<(), Fail> {
-    let reason = Reason::False(Clash {
+// A reason with an action and a state.
+fn counterexample(alloc: Global) -> Result<Reason, AllocError> {
+    Ok(Reason::False(Clash {
         action: Some(3),
-        state: Some(State::empty(rt.alloc(), 2)?),
-    });
-    assert!(rt; is_copied(rt.alloc(), &reason)?);
-    assert!(rt; is_copied(rt.alloc(), &Reason::Rule)?);
-    Ok(())
+        state: Some(State::empty(alloc, 2)?),
+    }))
+}
+
+// Whether a copy of it is the same.
+fn counterexample_is_copied(alloc: Global) -> Result<bool, AllocError> {
+    let reason = counterexample(alloc)?;
+    is_copied(alloc, &reason)
+}
+
+#[test]
+fn copies_a_counterexample(rt: HostRuntime) {
+    assert!(rt; counterexample_is_copied(rt.alloc()) == Ok(true));
+    assert!(rt; is_copied(rt.alloc(), &Reason::Rule) == Ok(true));
 }

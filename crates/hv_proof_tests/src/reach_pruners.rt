@@ -9,7 +9,6 @@ use hv_lines::{Draft, Pruner};
 use hv_reach::{PairPruner, RelaxedPruner};
 use hv_task::Task;
 use std::alloc::{AllocError, Global};
-use std::test::Fail;
 
 // The answer of a pruner without notes, for the state that holds these atoms.
 fn first_answer<P: Pruner>(
@@ -125,16 +124,24 @@ fn need_pairs(alloc: Global, task: &Task) -> Result<bool, AllocError> {
     Ok(none & (answer_by_pairs(alloc, task, 0)? == Some(4)))
 }
 
-#[test]
-fn a_noted_formula_answers_again(rt: HostRuntime) -> Result<(), Fail> {
-    let task = robot(rt.alloc())?;
-    assert!(rt; are_noted(rt.alloc(), &task)?);
-    Ok(())
+// The same of a new task.
+fn robot_is_noted(alloc: Global) -> Result<bool, AllocError> {
+    let task = robot(alloc)?;
+    are_noted(alloc, &task)
 }
 
 #[test]
-fn through_a_bound(rt: HostRuntime) -> Result<(), Fail> {
-    let task = either(rt.alloc())?;
-    assert!(rt; need_pairs(rt.alloc(), &task)?);
-    Ok(())
+fn a_noted_formula_answers_again(rt: HostRuntime) {
+    assert!(rt; robot_is_noted(rt.alloc()) == Ok(true));
+}
+
+// The same of a new task.
+fn either_needs_pairs(alloc: Global) -> Result<bool, AllocError> {
+    let task = either(alloc)?;
+    need_pairs(alloc, &task)
+}
+
+#[test]
+fn through_a_bound(rt: HostRuntime) {
+    assert!(rt; either_needs_pairs(rt.alloc()) == Ok(true));
 }

@@ -10,7 +10,6 @@ use hv_replay::{Log, LogFault, ReplayFault, read_log, replay};
 use hv_sets::StateBuffer;
 use hv_task::{State, Task};
 use std::alloc::{AllocError, Global};
-use std::test::Fail;
 
 const NAME: &str = "log";
 
@@ -210,43 +209,68 @@ fn is_replayed(alloc: Global, task: &Task, text: &str, want: &str) -> Result<boo
     Ok(replayed(alloc, task, text.as_bytes())?.as_str() == want)
 }
 
+// Whether this is answered to the text, for a robot and a key.
+fn robot_is_answered(alloc: Global, text: &str, want: &str) -> Result<bool, AllocError> {
+    let task = robot(alloc)?;
+    is_answered(alloc, &task, text.as_bytes(), want)
+}
+
 #[test]
-fn logs_and_their_first_faults(rt: HostRuntime) -> Result<(), Fail> {
-    let task = robot(rt.alloc())?;
+fn logs_and_their_first_faults(rt: HostRuntime) {
     for (text, want) in TEXTS {
         assert!(rt;
-            is_answered(rt.alloc(), &task, text.as_bytes(), want)?,
+            robot_is_answered(rt.alloc(), text, want) == Ok(true),
             "{text:?}"
         );
     }
-    Ok(())
+}
+
+// Whether this is the first hole of the log, for a robot and a key.
+fn robot_has_hole(alloc: Global, text: &str, want: &str) -> Result<bool, AllocError> {
+    let task = robot(alloc)?;
+    is_hole(alloc, &task, text, want)
 }
 
 #[test]
-fn logs_and_their_first_holes(rt: HostRuntime) -> Result<(), Fail> {
-    let task = robot(rt.alloc())?;
+fn logs_and_their_first_holes(rt: HostRuntime) {
     for (text, want) in HOLES {
-        assert!(rt; is_hole(rt.alloc(), &task, text, want)?, "{text:?}");
+        assert!(rt;
+            robot_has_hole(rt.alloc(), text, want) == Ok(true),
+            "{text:?}"
+        );
     }
-    Ok(())
+}
+
+// Whether this is the first hole of the log, for the task with four atoms.
+fn exit_is_hole(alloc: Global, text: &str, want: &str) -> Result<bool, AllocError> {
+    let task = task_with(alloc, 4, &[0, 1], &[3], ACTIONS)?;
+    is_hole(alloc, &task, text, want)
 }
 
 #[test]
-fn least_actions_that_lead_out(rt: HostRuntime) -> Result<(), Fail> {
-    let task = task_with(rt.alloc(), 4, &[0, 1], &[3], ACTIONS)?;
+fn least_actions_that_lead_out(rt: HostRuntime) {
     for (text, want) in EXITS {
-        assert!(rt; is_hole(rt.alloc(), &task, text, want)?, "{text:?}");
+        assert!(rt;
+            exit_is_hole(rt.alloc(), text, want) == Ok(true),
+            "{text:?}"
+        );
     }
-    Ok(())
+}
+
+// Whether this becomes of the log, for a robot and a key.
+fn robot_is_replayed(alloc: Global, text: &str, want: &str) -> Result<bool, AllocError> {
+    let task = robot(alloc)?;
+    is_replayed(alloc, &task, text, want)
 }
 
 #[test]
-fn logs_and_their_proofs(rt: HostRuntime) -> Result<(), Fail> {
-    let task = robot(rt.alloc())?;
+fn logs_and_their_proofs(rt: HostRuntime) {
     for (text, want) in REPLAYS {
-        assert!(rt; is_replayed(rt.alloc(), &task, text, want)?, "{text:?}");
+        assert!(rt;
+            robot_is_replayed(rt.alloc(), text, want) == Ok(true),
+            "{text:?}"
+        );
     }
-    Ok(())
 }
 
 // The text twice.
@@ -283,13 +307,17 @@ fn is_limited(alloc: Global, task: &Task, row: &Long) -> Result<bool, AllocError
     is_answered(alloc, task, text.as_slice(), row.3)
 }
 
+// The same for a robot and a key.
+fn robot_is_limited(alloc: Global, row: &Long) -> Result<bool, AllocError> {
+    let task = robot(alloc)?;
+    is_limited(alloc, &task, row)
+}
+
 #[test]
-fn limits_of_a_log(rt: HostRuntime) -> Result<(), Fail> {
-    let task = robot(rt.alloc())?;
+fn limits_of_a_log(rt: HostRuntime) {
     for row in LONG {
-        assert!(rt; is_limited(rt.alloc(), &task, row)?, "{row:?}");
+        assert!(rt; robot_is_limited(rt.alloc(), row) == Ok(true), "{row:?}");
     }
-    Ok(())
 }
 
 // Whether the state of the entry at the place has just these atoms.
@@ -311,14 +339,21 @@ fn has_two_entries(log: &Log) -> bool {
         && is_state(log, 1, &[])
 }
 
+// Whether such a log is read so.
+fn is_log_of_two(alloc: Global, task: &Task) -> Result<bool, LogFault> {
+    let log = read(alloc, task, b"x 0 2\np\nend\n")?;
+    Ok(has_two_entries(&log))
+}
+
+// The same for a robot and a key.
+fn robot_has_two(alloc: Global) -> Result<bool, LogFault> {
+    let task = robot(alloc)?;
+    is_log_of_two(alloc, &task)
+}
+
 #[test]
-fn entries_of_a_log(rt: HostRuntime) -> Result<(), Fail> {
-    let task = robot(rt.alloc())?;
-    let Ok(log) = read(rt.alloc(), &task, b"x 0 2\np\nend\n") else {
-        panic!(&rt; "no log");
-    };
-    assert!(rt; has_two_entries(&log));
-    Ok(())
+fn entries_of_a_log(rt: HostRuntime) {
+    assert!(rt; robot_has_two(rt.alloc()) == Ok(true));
 }
 
 // Whether a log can't be read where this call of the shelf fails.
@@ -332,11 +367,15 @@ fn fails_at(alloc: Global, task: &Task, call: u64) -> Result<bool, AllocError> {
     ))
 }
 
+// The same for a robot and a key.
+fn robot_fails_at(alloc: Global, call: u64) -> Result<bool, AllocError> {
+    let task = robot(alloc)?;
+    fails_at(alloc, &task, call)
+}
+
 #[test]
-fn failing_reads(rt: HostRuntime) -> Result<(), Fail> {
-    let task = robot(rt.alloc())?;
+fn failing_reads(rt: HostRuntime) {
     for call in 1..7 {
-        assert_eq!(rt; fails_at(rt.alloc(), &task, call)?, call < 6, "{call}");
+        assert!(rt; robot_fails_at(rt.alloc(), call) == Ok(call < 6), "{call}");
     }
-    Ok(())
 }

@@ -4,7 +4,7 @@ use crate::tables::{add_all_actions, add_claim, add_set, is_spoken, premises_of}
 use hv_lines::{ActionList, Acts, Constant, Expr, Line, Statement, Table, Word};
 use hv_rules::{is_rule, rule_fits};
 use std::alloc::{AllocError, Global};
-use std::test::Fail;
+use std::process::Abort;
 
 type RuleCase = (Word, Statement, &'static [usize]);
 
@@ -134,110 +134,153 @@ fn list_of(alloc: Global, numbers: &[u32]) -> Result<ActionList, AllocError> {
 }
 
 /// Puts the actions of these numbers last.
-fn add_list(alloc: Global, table: &mut Table, numbers: &[u32]) -> Result<(), Fail> {
+fn add_list(alloc: Global, table: &mut Table, numbers: &[u32]) -> Result<(), AllocError> {
     let list = list_of(alloc, numbers)?;
     let id = table.acts_count();
     table.push(Line::Acts {
         id,
         acts: Acts::List(list),
-    })?;
-    Ok(())
+    })
 }
 
-/// Puts the union of the first two lists of actions last, where these are there.
-fn add_union(table: &mut Table) -> Result<(), Fail> {
+/// Puts the union of the first two lists of actions last, which are there.
+fn add_union(rt: &impl Abort, table: &mut Table) -> Result<(), AllocError> {
     let id = table.acts_count();
-    if id < 3 {
-        return Err("a union without its lists".into());
-    }
+    assert!(rt; 3 <= id, "a union without its lists");
     table.push(Line::Acts {
         id,
         acts: Acts::Both(1, 2),
-    })?;
-    Ok(())
+    })
 }
 
-/// All actions, two lists of one action, the union of these, and the list of both actions.
-fn add_actions(alloc: Global, table: &mut Table) -> Result<(), Fail> {
+/// Puts all actions last, two lists of one action, the union of these, and the list of both actions.
+fn add_actions(rt: &impl Abort, alloc: Global, table: &mut Table) -> Result<(), AllocError> {
     add_all_actions(table)?;
     add_list(alloc, table, &[0])?;
     add_list(alloc, table, &[1])?;
-    add_union(table)?;
-    add_list(alloc, table, &[0, 1])?;
+    add_union(rt, table)?;
+    add_list(alloc, table, &[0, 1])
+}
+
+/// A set of `example`, by its operands.
+enum SetRow {
+    Constant(Constant),
+    Node(u32),
+    Not(usize),
+    And(usize, usize),
+    Or(usize, usize),
+    After(usize, usize),
+    Before(usize, usize),
+}
+
+/// The sets of `example`, in order.
+static SETS: [SetRow; 29] = [
+    SetRow::Constant(Constant::Empty),
+    SetRow::Constant(Constant::Start),
+    SetRow::Constant(Constant::Goal),
+    SetRow::Node(1),
+    SetRow::Node(0),
+    SetRow::Node(1),
+    SetRow::Or(3, 4),
+    SetRow::Or(4, 3),
+    SetRow::And(3, 2),
+    SetRow::Not(3),
+    SetRow::And(9, 2),
+    SetRow::After(3, 0),
+    SetRow::Before(3, 0),
+    SetRow::After(3, 1),
+    SetRow::After(3, 2),
+    SetRow::After(3, 3),
+    SetRow::After(4, 1),
+    SetRow::After(6, 1),
+    SetRow::Not(4),
+    SetRow::Before(18, 1),
+    SetRow::And(6, 5),
+    SetRow::And(3, 5),
+    SetRow::And(4, 5),
+    SetRow::Or(21, 22),
+    SetRow::And(3, 4),
+    SetRow::Or(22, 21),
+    SetRow::And(5, 6),
+    SetRow::After(3, 4),
+    SetRow::Before(3, 4),
+];
+
+/// The set of a row.
+fn expr_of(row: &SetRow) -> Expr {
+    match row {
+        SetRow::Constant(constant) => Expr::Constant(*constant),
+        SetRow::Node(node) => Expr::Node(*node),
+        SetRow::Not(set) => Expr::Not(*set),
+        SetRow::And(left, right) => Expr::And(*left, *right),
+        SetRow::Or(left, right) => Expr::Or(*left, *right),
+        SetRow::After(set, acts) => Expr::After(*set, *acts),
+        SetRow::Before(set, acts) => Expr::Before(*set, *acts),
+    }
+}
+
+/// Puts the sets of these rows last.
+fn add_sets(rt: &impl Abort, table: &mut Table, rows: &[SetRow]) -> Result<(), AllocError> {
+    for row in rows {
+        add_set(rt, table, expr_of(row))?;
+    }
     Ok(())
 }
 
-/// The sets 0 to 12.
-fn add_first_sets(table: &mut Table) -> Result<(), Fail> {
-    add_set(table, Expr::Constant(Constant::Empty))?;
-    add_set(table, Expr::Constant(Constant::Start))?;
-    add_set(table, Expr::Constant(Constant::Goal))?;
-    add_set(table, Expr::Node(1))?;
-    add_set(table, Expr::Node(0))?;
-    add_set(table, Expr::Node(1))?;
-    add_set(table, Expr::Or(3, 4))?;
-    add_set(table, Expr::Or(4, 3))?;
-    add_set(table, Expr::And(3, 2))?;
-    add_set(table, Expr::Not(3))?;
-    add_set(table, Expr::And(9, 2))?;
-    add_set(table, Expr::After(3, 0))?;
-    add_set(table, Expr::Before(3, 0))
+/// Puts these claims last.
+fn add_claims(
+    rt: &impl Abort,
+    table: &mut Table,
+    statements: &[Statement],
+) -> Result<(), AllocError> {
+    for statement in statements {
+        add_claim(rt, table, *statement, Word::B1, &[])?;
+    }
+    Ok(())
 }
 
-/// The sets 13 to 28.
-fn add_last_sets(table: &mut Table) -> Result<(), Fail> {
-    add_set(table, Expr::After(3, 1))?;
-    add_set(table, Expr::After(3, 2))?;
-    add_set(table, Expr::After(3, 3))?;
-    add_set(table, Expr::After(4, 1))?;
-    add_set(table, Expr::After(6, 1))?;
-    add_set(table, Expr::Not(4))?;
-    add_set(table, Expr::Before(18, 1))?;
-    add_set(table, Expr::And(6, 5))?;
-    add_set(table, Expr::And(3, 5))?;
-    add_set(table, Expr::And(4, 5))?;
-    add_set(table, Expr::Or(21, 22))?;
-    add_set(table, Expr::And(3, 4))?;
-    add_set(table, Expr::Or(22, 21))?;
-    add_set(table, Expr::And(5, 6))?;
-    add_set(table, Expr::After(3, 4))?;
-    add_set(table, Expr::Before(3, 4))
+/// Puts the lines of `example` last.
+fn add_example(rt: &impl Abort, alloc: Global, table: &mut Table) -> Result<(), AllocError> {
+    add_actions(rt, alloc, table)?;
+    add_sets(rt, table, &SETS)?;
+    add_claims(rt, table, &CLAIMS)
 }
 
 /// A table of lines, whether good or not: a rule asks only what they say.
-fn example(alloc: Global) -> Result<Table, Fail> {
+fn example(rt: &impl Abort, alloc: Global) -> Result<Table, AllocError> {
     let mut table = Table::new(alloc);
-    add_actions(alloc, &mut table)?;
-    add_first_sets(&mut table)?;
-    add_last_sets(&mut table)?;
-    for statement in &CLAIMS {
-        add_claim(&mut table, *statement, Word::B1, &[])?;
-    }
+    add_example(rt, alloc, &mut table)?;
     Ok(table)
 }
 
 /// Whether the rule fits, after the lines of the table.
-fn fits(table: &Table, row: RuleCase) -> Result<bool, Fail> {
+fn fits(rt: &impl Abort, table: &Table, row: RuleCase) -> bool {
     let (word, statement, ids) = row;
-    let premises = premises_of(ids)?;
+    let premises = premises_of(rt, ids);
     let knowns = table.known_count();
-    if !is_rule(word) || !is_spoken(table, statement) {
-        return Err("no row of a rule".into());
+    assert!(rt; is_rule(word), "no rule");
+    assert!(rt; is_spoken(table, statement), "a row without its sets");
+    let behind = premises.as_slice().iter().all(|k| *k < knowns);
+    assert!(rt; behind, "a row without its premises");
+    rule_fits(table, &statement, word, &premises)
+}
+
+/// The rules of these rows fit, or none does.
+fn all_fit(rt: &impl Abort, table: &Table, rows: &[RuleCase], fitting: bool) {
+    for row in rows {
+        assert!(rt; fits(rt, table, *row) == fitting, "{row:?}");
     }
-    if !premises.as_slice().iter().all(|k| *k < knowns) {
-        return Err("a row without its premises".into());
-    }
-    Ok(rule_fits(table, &statement, word, &premises))
+}
+
+/// The rows fit that have to, and no others.
+fn tell_rows(rt: &impl Abort, alloc: Global) -> Result<(), AllocError> {
+    let table = example(rt, alloc)?;
+    all_fit(rt, &table, &FITTING, true);
+    all_fit(rt, &table, &UNFITTING, false);
+    Ok(())
 }
 
 #[test]
-fn tells_rows_that_fit(rt: HostRuntime) -> Result<(), Fail> {
-    let table = example(rt.alloc())?;
-    for row in &FITTING {
-        assert!(rt; fits(&table, *row)?, "{row:?}");
-    }
-    for row in &UNFITTING {
-        assert!(rt; !fits(&table, *row)?, "{row:?}");
-    }
-    Ok(())
+fn tells_rows_that_fit(rt: HostRuntime) {
+    assert!(rt; tell_rows(&rt, rt.alloc()) == Ok(()));
 }

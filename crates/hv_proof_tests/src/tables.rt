@@ -4,7 +4,8 @@ ghost use Rattle.std.specs.Prelude.{◌↔◌, IsTrue};
 ghost use Rattle.hv_lines.specs.Numbering.{acts_count, expr_count, ExprRefersBelow, SpeaksBelow};
 
 use hv_lines::{Acts, Expr, Line, Premises, Statement, Table, Word};
-use std::test::Fail;
+use std::alloc::AllocError;
+use std::process::Abort;
 
 /// Whether the sets of the statement are in the table.
 pub(crate) fn is_spoken(table: &Table, statement: Statement) -> bool
@@ -36,55 +37,51 @@ fn has_operands(table: &Table, expr: &Expr) -> bool
 }
 
 /// Puts all actions last.
-pub(crate) fn add_all_actions(table: &mut Table) -> Result<(), Fail> {
+pub(crate) fn add_all_actions(table: &mut Table) -> Result<(), AllocError> {
     let id = table.acts_count();
     table.push(Line::Acts {
         id,
         acts: Acts::All,
-    })?;
-    Ok(())
+    })
 }
 
-/// Puts this set last, where it refers to earlier ones.
-pub(crate) fn add_set(table: &mut Table, expr: Expr) -> Result<(), Fail> {
-    if !has_operands(table, &expr) {
-        return Err("a set without its operands".into());
-    }
+/// Puts this set last, which refers to earlier ones.
+pub(crate) fn add_set(rt: &impl Abort, table: &mut Table, expr: Expr) -> Result<(), AllocError> {
+    assert!(rt; has_operands(table, &expr), "a set without its operands");
     let id = table.expr_count();
-    table.push(Line::Expr { id, expr })?;
-    Ok(())
+    table.push(Line::Expr { id, expr })
 }
 
 /// The identifiers as premises.
-pub(crate) fn premises_of(ids: &[usize]) -> Result<Premises, Fail> {
+pub(crate) fn premises_of(rt: &impl Abort, ids: &[usize]) -> Premises {
     match *ids {
-        [] => Ok(Premises::none()),
-        [first] => Ok(Premises::one(first)),
-        [first, second] => Ok(Premises::two(first, second)),
-        [first, second, third] => Ok(Premises::three(first, second, third)),
-        _ => Err("four premises".into()),
+        [] => Premises::none(),
+        [first] => Premises::one(first),
+        [first, second] => Premises::two(first, second),
+        [first, second, third] => Premises::three(first, second, third),
+        _ => panic!(rt; "four premises"),
     }
 }
 
-/// Puts this claim last, where it speaks of earlier sets and its premises are earlier claims.
+/// Puts this claim last, which speaks of earlier sets, and whose premises are earlier claims.
 pub(crate) fn add_claim(
+    rt: &impl Abort,
     table: &mut Table,
     statement: Statement,
     word: Word,
     ids: &[usize],
-) -> Result<(), Fail> {
-    let premises = premises_of(ids)?;
+) -> Result<(), AllocError> {
+    let premises = premises_of(rt, ids);
     let id = table.known_count();
-    if !is_spoken(table, statement) || !premises.as_slice().iter().all(|k| *k < id) {
-        return Err("a claim without its sets or premises".into());
-    }
+    assert!(rt; is_spoken(table, statement), "a claim without its sets");
+    let behind = premises.as_slice().iter().all(|k| *k < id);
+    assert!(rt; behind, "a claim without its premises");
     table.push(Line::Known {
         id,
         statement,
         word,
         premises,
-    })?;
-    Ok(())
+    })
 }
 
 /// Whether the `k` line of this identifier says this, by this word from these premises.

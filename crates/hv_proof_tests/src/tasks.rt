@@ -1,6 +1,6 @@
 //! Tasks for the tests, and their states.
 
-ghost use Rattle.std.specs.Prelude.{◌≡◌, ◌≤◌, IfOk, OnOk};
+ghost use Rattle.std.specs.Prelude.{◌≡◌, ◌<◌, ◌≤◌, ◌+◌, IfOk, OnOk};
 ghost use Rattle.hv_task.specs.State.{AreBelow};
 ghost use Rattle.hv_task.specs.Strips.{IsOver, IsState, atoms};
 
@@ -77,6 +77,16 @@ pub(crate) fn add(
     Ok(())
 }
 
+// Puts an atom last.
+fn put_atom(alloc: Global, task: &mut Task) -> Result<(), AllocError>
+    requires { atoms task.old < 2000 }
+    ensures { OnOk result (atoms task.new ≡ atoms task.old + 1) }
+{
+    let name = Name::new(alloc, b"p")?;
+    task.add_atom(name)?;
+    Ok(())
+}
+
 // So many atoms, and nothing else.
 fn bare(alloc: Global, count: u32) -> Result<Task, AllocError>
     requires { count ≤ 2000 }
@@ -85,7 +95,7 @@ fn bare(alloc: Global, count: u32) -> Result<Task, AllocError>
     let mut task = Task::new(alloc);
     for number in 0..count {
         let _ = number;
-        task.add_atom(Name::new(alloc, b"p")?)?;
+        put_atom(alloc, &mut task)?;
     }
     Ok(task)
 }

@@ -7,7 +7,6 @@ use hv_sets::Clauses;
 use hv_task::Task;
 use hv_trap::{TrapFault, greatest_trap, prove_trap};
 use std::alloc::{AllocError, Global};
-use std::test::Fail;
 
 // The clauses as numbers: 1 denotes atom 0, -1 for its negation, and so on; 0 ends a clause.
 fn numbers_in(alloc: Global, clauses: &Clauses) -> Result<Vec<i64>, AllocError> {
@@ -103,32 +102,48 @@ const BY_HELD: &[i64] = &[
     1, 0, 3, 0, 1, 2, 0, 1, -2, 0, 1, 3, 0, 1, -3, 0, -1, 3, 0, 2, 3, 0, -2, 3, 0,
 ];
 
-#[test]
-fn three_that_each_take_the_next_away(rt: HostRuntime) -> Result<(), Fail> {
-    let task = task_with(rt.alloc(), 3, &[], &[0, 1, 2], THREE)?;
-    assert!(rt; is_proved(rt.alloc(), &task, BY_THREE)?);
-    Ok(())
+// Whether the three actions have the proof of their trap.
+fn three_are_proved(alloc: Global) -> Result<bool, TrapFault> {
+    let task = task_with(alloc, 3, &[], &[0, 1, 2], THREE)?;
+    is_proved(alloc, &task, BY_THREE)
 }
 
 #[test]
-fn two_places_of_which_each_is_left_for_the_other(rt: HostRuntime) -> Result<(), Fail> {
-    let task = either(rt.alloc())?;
-    assert!(rt; is_greatest(rt.alloc(), &task, BY_EITHER)?);
-    Ok(())
+fn three_that_each_take_the_next_away(rt: HostRuntime) {
+    assert!(rt; three_are_proved(rt.alloc()) == Ok(true));
+}
+
+// Whether the two places have their trap.
+fn either_is_greatest(alloc: Global) -> Result<bool, TrapFault> {
+    let task = either(alloc)?;
+    is_greatest(alloc, &task, BY_EITHER)
 }
 
 #[test]
-fn a_key_for_who_is_at_two_places(rt: HostRuntime) -> Result<(), Fail> {
-    let task = task_with(rt.alloc(), 3, &[], &[2], KEY)?;
-    assert!(rt; is_greatest(rt.alloc(), &task, BY_KEY)?);
-    Ok(())
+fn two_places_of_which_each_is_left_for_the_other(rt: HostRuntime) {
+    assert!(rt; either_is_greatest(rt.alloc()) == Ok(true));
+}
+
+// Whether the key has its trap.
+fn key_is_greatest(alloc: Global) -> Result<bool, TrapFault> {
+    let task = task_with(alloc, 3, &[], &[2], KEY)?;
+    is_greatest(alloc, &task, BY_KEY)
 }
 
 #[test]
-fn an_atom_added_and_deleted_is_held(rt: HostRuntime) -> Result<(), Fail> {
-    let task = task_with(rt.alloc(), 3, &[], &[0, 2], HELD)?;
-    assert!(rt; is_greatest(rt.alloc(), &task, BY_HELD)?);
-    Ok(())
+fn a_key_for_who_is_at_two_places(rt: HostRuntime) {
+    assert!(rt; key_is_greatest(rt.alloc()) == Ok(true));
+}
+
+// Whether such an atom has its trap.
+fn held_is_greatest(alloc: Global) -> Result<bool, TrapFault> {
+    let task = task_with(alloc, 3, &[], &[0, 2], HELD)?;
+    is_greatest(alloc, &task, BY_HELD)
+}
+
+#[test]
+fn an_atom_added_and_deleted_is_held(rt: HostRuntime) {
+    assert!(rt; held_is_greatest(rt.alloc()) == Ok(true));
 }
 
 // Twenty atoms that are the goal, of which each can be added.
@@ -158,32 +173,46 @@ fn has_no_trap(alloc: Global, task: &Task) -> Result<bool, TrapFault> {
     Ok(none & (clauses_of_greatest(alloc, task)? == 0))
 }
 
-#[test]
-fn none_where_each_atom_can_be_added(rt: HostRuntime) -> Result<(), Fail> {
-    let task = twenty(rt.alloc())?;
-    assert!(rt; has_no_trap(rt.alloc(), &task)?);
-    Ok(())
+// The same of the twenty atoms.
+fn twenty_have_no_trap(alloc: Global) -> Result<bool, TrapFault> {
+    let task = twenty(alloc)?;
+    has_no_trap(alloc, &task)
 }
 
 #[test]
-fn none_in_a_chain_in_which_each_atom_is_got_from_the_one_before(
-    rt: HostRuntime,
-) -> Result<(), Fail> {
-    let task = chain(rt.alloc())?;
-    assert_eq!(rt; clauses_of_greatest(rt.alloc(), &task)?, 0);
-    Ok(())
+fn none_where_each_atom_can_be_added(rt: HostRuntime) {
+    assert!(rt; twenty_have_no_trap(rt.alloc()) == Ok(true));
+}
+
+// How many clauses the trap of the chain has.
+fn clauses_of_chain(alloc: Global) -> Result<usize, TrapFault> {
+    let task = chain(alloc)?;
+    clauses_of_greatest(alloc, &task)
 }
 
 #[test]
-fn all_conjunctions_where_there_is_no_action(rt: HostRuntime) -> Result<(), Fail> {
-    let task = task_of(rt.alloc(), 64, &[], &[0])?;
-    assert_eq!(rt; clauses_of_greatest(rt.alloc(), &task)?, 127);
-    Ok(())
+fn none_in_a_chain_in_which_each_atom_is_got_from_the_one_before(rt: HostRuntime) {
+    assert!(rt; clauses_of_chain(rt.alloc()) == Ok(0));
+}
+
+// How many clauses the trap of 64 atoms without actions has.
+fn clauses_of_atoms(alloc: Global) -> Result<usize, TrapFault> {
+    let task = task_of(alloc, 64, &[], &[0])?;
+    clauses_of_greatest(alloc, &task)
 }
 
 #[test]
-fn more_than_64_atoms_are_too_many(rt: HostRuntime) -> Result<(), Fail> {
-    let task = task_of(rt.alloc(), 65, &[], &[0])?;
-    assert!(rt; matches!(prove_trap(rt.alloc(), &task), Err(TrapFault::TooManyAtoms)));
-    Ok(())
+fn all_conjunctions_where_there_is_no_action(rt: HostRuntime) {
+    assert!(rt; clauses_of_atoms(rt.alloc()) == Ok(127));
+}
+
+// Whether a proof by a trap is refused where there are 65 atoms.
+fn many_are_refused(alloc: Global) -> Result<bool, AllocError> {
+    let task = task_of(alloc, 65, &[], &[0])?;
+    Ok(matches!(prove_trap(alloc, &task), Err(TrapFault::TooManyAtoms)))
+}
+
+#[test]
+fn more_than_64_atoms_are_too_many(rt: HostRuntime) {
+    assert!(rt; many_are_refused(rt.alloc()) == Ok(true));
 }

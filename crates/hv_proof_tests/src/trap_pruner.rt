@@ -10,7 +10,6 @@ use hv_lines::{Draft, Pruner};
 use hv_task::Task;
 use hv_trap::TrapPruner;
 use std::alloc::{AllocError, Global};
-use std::test::Fail;
 
 // The answer of a pruner without notes.
 fn trap_answer(alloc: Global, task: &Task, atoms: &[u32]) -> Result<Option<usize>, AllocError> {
@@ -119,23 +118,30 @@ fn are_of_one_block(alloc: Global, task: &Task) -> Result<bool, AllocError> {
     Ok(right)
 }
 
-#[test]
-fn one_block_answers_for_all_states(rt: HostRuntime) -> Result<(), Fail> {
-    let task = either(rt.alloc())?;
-    assert!(rt; are_of_one_block(rt.alloc(), &task)?);
-    Ok(())
+// The same of a new task.
+fn either_is_of_one_block(alloc: Global) -> Result<bool, AllocError> {
+    let task = either(alloc)?;
+    are_of_one_block(alloc, &task)
 }
 
 #[test]
-fn through_a_bound_up_to_64_atoms(rt: HostRuntime) -> Result<(), Fail> {
-    assert_eq!(rt; answer_among(rt.alloc(), 64)?, Some(4));
-    assert_eq!(rt; answer_among(rt.alloc(), 65)?, None);
-    Ok(())
+fn one_block_answers_for_all_states(rt: HostRuntime) {
+    assert!(rt; either_is_of_one_block(rt.alloc()) == Ok(true));
 }
 
 #[test]
-fn through_a_box(rt: HostRuntime) -> Result<(), Fail> {
-    let task = either(rt.alloc())?;
-    assert_eq!(rt; boxed_answer(rt.alloc(), &task, &[0])?, Some(4));
-    Ok(())
+fn through_a_bound_up_to_64_atoms(rt: HostRuntime) {
+    assert!(rt; answer_among(rt.alloc(), 64) == Ok(Some(4)));
+    assert!(rt; answer_among(rt.alloc(), 65) == Ok(None));
+}
+
+// The same in a new task, for the state that holds the first atom.
+fn boxed_answer_anew(alloc: Global) -> Result<Option<usize>, AllocError> {
+    let task = either(alloc)?;
+    boxed_answer(alloc, &task, &[0])
+}
+
+#[test]
+fn through_a_box(rt: HostRuntime) {
+    assert!(rt; boxed_answer_anew(rt.alloc()) == Ok(Some(4)));
 }

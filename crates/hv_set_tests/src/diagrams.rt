@@ -16,7 +16,6 @@ use hv_sets::{
 };
 use hv_task::{Action, AtomList, Name, State, Task};
 use std::alloc::{AllocError, Global};
-use std::test::Fail;
 
 const NAME: &str = "nodes";
 
@@ -138,12 +137,11 @@ fn is_answered(
 }
 
 #[test]
-fn node_files_and_their_first_faults(rt: HostRuntime) -> Result<(), Fail> {
+fn node_files_and_their_first_faults(rt: HostRuntime) {
     for (text, want) in &FILES {
-        let told = is_answered(rt.alloc(), text.as_bytes(), 2, Limits::STANDARD, want)?;
-        assert!(rt; told, "{text:?}");
+        let told = is_answered(rt.alloc(), text.as_bytes(), 2, Limits::STANDARD, want);
+        assert!(rt; told == Ok(true), "{text:?}");
     }
-    Ok(())
 }
 
 /// A file of two nodes.
@@ -171,12 +169,14 @@ fn beginning_tells(alloc: Global, end: usize) -> Result<bool, AllocError> {
 }
 
 #[test]
-fn each_beginning_of_a_file_is_refused_where_it_ends(rt: HostRuntime) -> Result<(), Fail> {
+fn each_beginning_of_a_file_is_refused_where_it_ends(rt: HostRuntime) {
     assert_eq!(rt; TWO_NODES.len(), 20);
     for end in 0..21 {
-        assert!(rt; beginning_tells(rt.alloc(), end)?, "cut at {end}");
+        assert!(rt;
+            beginning_tells(rt.alloc(), end) == Ok(true),
+            "cut at {end}"
+        );
     }
-    Ok(())
 }
 
 /// A file of one node with an order.
@@ -206,14 +206,14 @@ fn ordered_beginning_tells(alloc: Global, end: usize) -> Result<bool, AllocError
 }
 
 #[test]
-fn each_beginning_of_a_file_with_an_order_is_refused_where_it_ends(
-    rt: HostRuntime,
-) -> Result<(), Fail> {
+fn each_beginning_of_a_file_with_an_order_is_refused_where_it_ends(rt: HostRuntime) {
     assert_eq!(rt; ORDERED.len(), 24);
     for end in 0..25 {
-        assert!(rt; ordered_beginning_tells(rt.alloc(), end)?, "cut at {end}");
+        assert!(rt;
+            ordered_beginning_tells(rt.alloc(), end) == Ok(true),
+            "cut at {end}"
+        );
     }
-    Ok(())
 }
 
 // Puts a node last: its atom, and its child beside 0.
@@ -264,12 +264,11 @@ static TALL_FILES: [(u32, u32, &str); 8] = [
 ];
 
 #[test]
-fn nodes_are_tested_in_the_order_of_their_lines(rt: HostRuntime) -> Result<(), Fail> {
+fn nodes_are_tested_in_the_order_of_their_lines(rt: HostRuntime) {
     for (twin, broken, want) in &TALL_FILES {
-        let told = tall_file_tells(rt.alloc(), *twin, *broken, want)?;
-        assert!(rt; told, "twin {twin}, broken {broken}");
+        let told = tall_file_tells(rt.alloc(), *twin, *broken, want);
+        assert!(rt; told == Ok(true), "twin {twin}, broken {broken}");
     }
-    Ok(())
 }
 
 /// A file of one node.
@@ -294,12 +293,11 @@ fn tells_within(alloc: Global, line: u8, file: u8, want: &str) -> Result<bool, A
 }
 
 #[test]
-fn lines_and_files_within_limits(rt: HostRuntime) -> Result<(), Fail> {
+fn lines_and_files_within_limits(rt: HostRuntime) {
     for (line, file, want) in &LENGTHS {
-        let told = tells_within(rt.alloc(), *line, *file, want)?;
-        assert!(rt; told, "line {line} file {file}");
+        let told = tells_within(rt.alloc(), *line, *file, want);
+        assert!(rt; told == Ok(true), "line {line} file {file}");
     }
-    Ok(())
 }
 
 // A shelf with the file of one node whose call of this number fails.
@@ -326,14 +324,13 @@ fn fails_at(alloc: Global, call: u64) -> Result<bool, NodesFault> {
 }
 
 #[test]
-fn failing_reads(rt: HostRuntime) -> Result<(), Fail> {
+fn failing_reads(rt: HostRuntime) {
     // The open, two reads of seven bytes, and the read of no bytes.
-    assert!(rt; fails_at(rt.alloc(), 1)?);
-    assert!(rt; fails_at(rt.alloc(), 2)?);
-    assert!(rt; fails_at(rt.alloc(), 3)?);
-    assert!(rt; fails_at(rt.alloc(), 4)?);
-    assert!(rt; !fails_at(rt.alloc(), 5)?);
-    Ok(())
+    assert!(rt; fails_at(rt.alloc(), 1) == Ok(true));
+    assert!(rt; fails_at(rt.alloc(), 2) == Ok(true));
+    assert!(rt; fails_at(rt.alloc(), 3) == Ok(true));
+    assert!(rt; fails_at(rt.alloc(), 4) == Ok(true));
+    assert!(rt; fails_at(rt.alloc(), 5) == Ok(false));
 }
 
 /// Six nodes over three atoms: the last atom and its negation, the last two different and alike, an
@@ -583,35 +580,34 @@ fn finds(alloc: Global, asked: DiagramQuery, budget: u64, want: Finding) -> Resu
 }
 
 #[test]
-fn live_tuples_are_counted_before_a_state_is_answered(rt: HostRuntime) -> Result<(), Fail> {
+fn live_tuples_are_counted_before_a_state_is_answered(rt: HostRuntime) {
     let within = DiagramQuery {
         positive: Which::Set(3),
         negative: Which::Set(2),
         after: false,
     };
-    assert!(rt; finds(rt.alloc(), within, 2, Finding::Empty)?);
-    assert!(rt; finds(rt.alloc(), within, 1, Finding::Over)?);
+    assert!(rt; finds(rt.alloc(), within, 2, Finding::Empty) == Ok(true));
+    assert!(rt; finds(rt.alloc(), within, 1, Finding::Over) == Ok(true));
     let beyond = DiagramQuery {
         positive: Which::Set(2),
         negative: Which::Set(3),
         after: false,
     };
-    assert!(rt; finds(rt.alloc(), beyond, 4, Finding::Clash)?);
-    assert!(rt; finds(rt.alloc(), beyond, 3, Finding::Over)?);
+    assert!(rt; finds(rt.alloc(), beyond, 4, Finding::Clash) == Ok(true));
+    assert!(rt; finds(rt.alloc(), beyond, 3, Finding::Over) == Ok(true));
     let led_out = DiagramQuery {
         positive: Which::Set(2),
         negative: Which::Set(2),
         after: true,
     };
-    assert!(rt; finds(rt.alloc(), led_out, 2, Finding::Clash)?);
-    assert!(rt; finds(rt.alloc(), led_out, 1, Finding::Over)?);
+    assert!(rt; finds(rt.alloc(), led_out, 2, Finding::Clash) == Ok(true));
+    assert!(rt; finds(rt.alloc(), led_out, 1, Finding::Over) == Ok(true));
     let none = DiagramQuery {
         positive: Which::Empty,
         negative: Which::Set(2),
         after: false,
     };
-    assert!(rt; finds(rt.alloc(), none, 0, Finding::Empty)?);
-    Ok(())
+    assert!(rt; finds(rt.alloc(), none, 0, Finding::Empty) == Ok(true));
 }
 
 // Whether there are eight nodes, and just those of one number are one set. The program compares
@@ -636,9 +632,8 @@ fn six_are_told_apart(alloc: Global) -> Result<bool, NodesFault> {
 }
 
 #[test]
-fn nodes_are_told_apart(rt: HostRuntime) -> Result<(), Fail> {
-    assert!(rt; six_are_told_apart(rt.alloc())?);
-    Ok(())
+fn nodes_are_told_apart(rt: HostRuntime) {
+    assert!(rt; six_are_told_apart(rt.alloc()) == Ok(true));
 }
 
 /// How many paths lead from each node to 0, and to 1.
@@ -772,11 +767,13 @@ fn is_walked_in_file(alloc: Global, node: usize) -> Result<bool, NodesFault>
 }
 
 #[test]
-fn walks_part_the_states(rt: HostRuntime) -> Result<(), Fail> {
+fn walks_part_the_states(rt: HostRuntime) {
     for node in 0..8 {
-        assert!(rt; is_walked_in_file(rt.alloc(), node)?, "node {node}");
+        assert!(rt;
+            is_walked_in_file(rt.alloc(), node) == Ok(true),
+            "node {node}"
+        );
     }
-    Ok(())
 }
 
 // Whether some state is in both nodes, or in neither.
@@ -881,11 +878,13 @@ fn are_met_in_file(alloc: Global, left: usize) -> Result<bool, NodesFault>
 }
 
 #[test]
-fn paths_are_walked_as_all_states_say(rt: HostRuntime) -> Result<(), Fail> {
+fn paths_are_walked_as_all_states_say(rt: HostRuntime) {
     for node in 0..8 {
-        assert!(rt; are_met_in_file(rt.alloc(), node)?, "node {node}");
+        assert!(rt;
+            are_met_in_file(rt.alloc(), node) == Ok(true),
+            "node {node}"
+        );
     }
-    Ok(())
 }
 
 /// Files over three atoms, and the place of each atom.
@@ -921,14 +920,16 @@ fn last_place(alloc: Global) -> u32 {
 }
 
 #[test]
-fn each_atom_has_its_place(rt: HostRuntime) -> Result<(), Fail> {
+fn each_atom_has_its_place(rt: HostRuntime) {
     for (text, places) in &PLACED {
-        assert!(rt; is_placed(rt.alloc(), text.as_bytes(), places)?, "{text}");
+        assert!(rt;
+            is_placed(rt.alloc(), text.as_bytes(), places) == Ok(true),
+            "{text}"
+        );
     }
-    assert_eq!(rt; place_of_one(rt.alloc(), b"nodes 0")?, 0);
-    assert_eq!(rt; place_of_one(rt.alloc(), b"order 0\nnodes 0")?, 0);
+    assert!(rt; place_of_one(rt.alloc(), b"nodes 0") == Ok(0));
+    assert!(rt; place_of_one(rt.alloc(), b"order 0\nnodes 0") == Ok(0));
     assert_eq!(rt; last_place(rt.alloc()), 65534);
-    Ok(())
 }
 
 // How many nodes there are without a file.
@@ -938,7 +939,6 @@ fn count_without_file(alloc: Global) -> usize {
 }
 
 #[test]
-fn has_two_nodes_without_a_file(rt: HostRuntime) -> Result<(), Fail> {
+fn has_two_nodes_without_a_file(rt: HostRuntime) {
     assert_eq!(rt; count_without_file(rt.alloc()), 2);
-    Ok(())
 }

@@ -2,7 +2,6 @@
 
 use crate::one_head::{OneHead, first_refused, is_named_behind, numbers_sets};
 use hv_horn::{HornFault, HornKind};
-use std::test::Fail;
 
 impl OneHead for HornKind {
     fn is_positive() -> bool {
@@ -18,23 +17,28 @@ impl OneHead for HornKind {
 }
 
 #[test]
-fn the_first_other_clause_is_named(rt: HostRuntime) -> Result<(), Fail> {
+fn the_first_other_clause_is_named(rt: HostRuntime) {
     for number in 0..36 {
         assert!(rt;
-            is_named_behind::<HornKind>(rt.alloc(), number)?,
+            matches!(is_named_behind::<HornKind>(rt.alloc(), number), Ok(true)),
             "first clause {number}"
         );
     }
-    assert_eq!(rt;
-        first_refused::<HornKind>(rt.alloc(), [[0, 0], [0, 2]])?,
-        Some(1)
+    assert!(rt;
+        matches!(
+            first_refused::<HornKind>(rt.alloc(), [[0, 0], [0, 2]]),
+            Ok(Some(1))
+        )
     );
-    Ok(())
 }
 
 #[test]
-fn a_store_numbers_its_sets(rt: HostRuntime) -> Result<(), Fail> {
+fn a_store_numbers_its_sets(rt: HostRuntime) {
     let rows = [[[0, 0], [0, 1]], [[1, 1], [0, 1]]];
-    assert!(rt; numbers_sets::<HornKind>(rt.alloc(), rows, [false, true])?);
-    Ok(())
+    assert!(rt;
+        matches!(
+            numbers_sets::<HornKind>(rt.alloc(), rows, [false, true]),
+            Ok(true)
+        )
+    );
 }

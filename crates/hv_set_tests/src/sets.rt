@@ -8,7 +8,6 @@ use hv_sets::{
 };
 use hv_task::AtomList;
 use std::alloc::{AllocError, Global};
-use std::test::Fail;
 
 const HELD: Literal = Literal {
     atom: 2,
@@ -35,9 +34,8 @@ fn keeps_order(alloc: Global) -> Result<bool, AllocError> {
 }
 
 #[test]
-fn a_clause_keeps_the_order_of_its_literals(rt: HostRuntime) -> Result<(), Fail> {
-    assert!(rt; keeps_order(rt.alloc())?);
-    Ok(())
+fn a_clause_keeps_the_order_of_its_literals(rt: HostRuntime) {
+    assert!(rt; keeps_order(rt.alloc()) == Ok(true));
 }
 
 // Puts the clause of the two literals, the empty one, and that of the second literal.
@@ -86,10 +84,9 @@ fn keep_order(alloc: Global) -> Result<bool, AllocError> {
 }
 
 #[test]
-fn clauses_keep_their_order(rt: HostRuntime) -> Result<(), Fail> {
+fn clauses_keep_their_order(rt: HostRuntime) {
     assert!(rt; tells_empty(rt.alloc()));
-    assert!(rt; keep_order(rt.alloc())?);
-    Ok(())
+    assert!(rt; keep_order(rt.alloc()) == Ok(true));
 }
 
 // The three clauses, shared.
@@ -98,11 +95,16 @@ fn three_shared(alloc: Global) -> Result<Clauses, AllocError> {
     shared_clauses(alloc, &clauses)
 }
 
+// Whether the list gets a further clause, and the copy of its three stays.
+fn gets_a_clause(longer: &mut Clauses, copy: &Clauses) -> Result<bool, AllocError> {
+    longer.push_literals(&[])?;
+    Ok(longer.len() == 4 && begin_so(copy, 3))
+}
+
 // Whether a copy of the three clauses stays where the list gets a further one.
 fn copy_stays(alloc: Global, longer: &mut Clauses) -> Result<bool, AllocError> {
     let copy = longer.copy(alloc)?;
-    longer.push_literals(&[])?;
-    Ok(longer.len() == 4 && begin_so(&copy, 3))
+    gets_a_clause(longer, &copy)
 }
 
 // The same of a list that is shared.
@@ -112,9 +114,8 @@ fn shared_copy_stays(alloc: Global) -> Result<bool, AllocError> {
 }
 
 #[test]
-fn a_copy_of_shared_clauses_stays(rt: HostRuntime) -> Result<(), Fail> {
-    assert!(rt; shared_copy_stays(rt.alloc())?);
-    Ok(())
+fn a_copy_of_shared_clauses_stays(rt: HostRuntime) {
+    assert!(rt; shared_copy_stays(rt.alloc()) == Ok(true));
 }
 
 // A list of one state, which shares it.
@@ -142,11 +143,16 @@ fn count_and_least(states: &StateList, place: usize) -> (usize, Option<u32>) {
     (state.len(), state.first())
 }
 
+// Whether the list gets a further state, and the copy of its one stays.
+fn gets_a_state(longer: &mut StateList, copy: &StateList) -> Result<bool, AllocError> {
+    longer.push_atoms(&[1, 4])?;
+    Ok(longer.len() == 2 && is_state(longer, 1, &[1, 4]) && copy.len() == 1)
+}
+
 // Whether a copy of the one state stays where the list gets a further one.
 fn state_copy_stays(alloc: Global, states: &mut StateList) -> Result<bool, AllocError> {
     let copy = states.copy(alloc)?;
-    states.push_atoms(&[1, 4])?;
-    Ok(states.len() == 2 && is_state(states, 1, &[1, 4]) && copy.len() == 1)
+    gets_a_state(states, &copy)
 }
 
 // The same of a list that is shared.
@@ -156,9 +162,8 @@ fn shared_state_copy_stays(alloc: Global) -> Result<bool, AllocError> {
 }
 
 #[test]
-fn a_copy_of_shared_states_stays(rt: HostRuntime) -> Result<(), Fail> {
-    assert!(rt; shared_state_copy_stays(rt.alloc())?);
-    Ok(())
+fn a_copy_of_shared_states_stays(rt: HostRuntime) {
+    assert!(rt; shared_state_copy_stays(rt.alloc()) == Ok(true));
 }
 
 // Two states of nine atoms below 256, as many as are kept in one byte each, and one that has a
@@ -177,23 +182,38 @@ fn dense_states(alloc: Global) -> Result<StateList, AllocError> {
     states.share()
 }
 
+// Whether the first two are read as they were put in.
+fn are_read(states: &StateList) -> bool {
+    is_state(states, 0, &DENSE) && count_and_least(states, 1) == (9, Some(1))
+}
+
+// Whether there are three, and the last two are read as they were put in.
+fn are_more(states: &StateList) -> bool {
+    states.len() == 3 && is_state(states, 1, &OTHER) && is_state(states, 2, &GREAT)
+}
+
+// Whether the list gets the greater one, and the copy of the first two stays.
+fn gets_a_great_state(states: &mut StateList, copy: &StateList) -> Result<bool, AllocError> {
+    states.push_atoms(&GREAT)?;
+    Ok(are_more(states) && copy.len() == 2 && is_state(copy, 0, &DENSE))
+}
+
 // Whether they are read as they were put in, also where the list gets a further one, and whether a
 // copy stays.
+fn are_read_and_stay(alloc: Global, states: &mut StateList) -> Result<bool, AllocError> {
+    let copy = states.copy(alloc)?;
+    Ok(are_read(states) & gets_a_great_state(states, &copy)?)
+}
+
+// The same of a new list.
 fn dense_states_stay(alloc: Global) -> Result<bool, AllocError> {
     let mut states = dense_states(alloc)?;
-    let copy = states.copy(alloc)?;
-    let are_read = is_state(&states, 0, &DENSE) && count_and_least(&states, 1) == (9, Some(1));
-    states.push_atoms(&GREAT)?;
-    let are_more = states.len() == 3
-        && is_state(&states, 1, &OTHER)
-        && is_state(&states, 2, &GREAT);
-    Ok(are_read && are_more && copy.len() == 2 && is_state(&copy, 0, &DENSE))
+    are_read_and_stay(alloc, &mut states)
 }
 
 #[test]
-fn dense_states_are_read_as_they_were_put_in(rt: HostRuntime) -> Result<(), Fail> {
-    assert!(rt; dense_states_stay(rt.alloc())?);
-    Ok(())
+fn dense_states_are_read_as_they_were_put_in(rt: HostRuntime) {
+    assert!(rt; dense_states_stay(rt.alloc()) == Ok(true));
 }
 
 // Puts the two literals and an end, an end alone, and the second literal and an end.
@@ -246,10 +266,9 @@ fn states_are_gathered(alloc: Global) -> Result<bool, AllocError> {
 }
 
 #[test]
-fn lists_are_put_together_item_by_item(rt: HostRuntime) -> Result<(), Fail> {
-    assert!(rt; are_gathered(rt.alloc())?);
-    assert!(rt; states_are_gathered(rt.alloc())?);
-    Ok(())
+fn lists_are_put_together_item_by_item(rt: HostRuntime) {
+    assert!(rt; are_gathered(rt.alloc()) == Ok(true));
+    assert!(rt; states_are_gathered(rt.alloc()) == Ok(true));
 }
 
 // Puts set 7 after the action, and the goal before it: the operand of this number.
@@ -293,7 +312,6 @@ fn name_their_sets(alloc: Global) -> Result<bool, AllocError> {
 }
 
 #[test]
-fn operands_name_their_sets_before_or_after_the_action(rt: HostRuntime) -> Result<(), Fail> {
-    assert!(rt; name_their_sets(rt.alloc())?);
-    Ok(())
+fn operands_name_their_sets_before_or_after_the_action(rt: HostRuntime) {
+    assert!(rt; name_their_sets(rt.alloc()) == Ok(true));
 }

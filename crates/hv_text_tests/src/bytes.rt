@@ -8,7 +8,6 @@ use hv_bytes::{
     SureSink, Text, read_decimal, read_short_decimal, send, split_field,
 };
 use std::alloc::{AllocError, Global};
-use std::test::Fail;
 
 /// A file of two lines.
 const TEXT: &str = "a 0 a\ne 0 c e\n";
@@ -128,14 +127,13 @@ static CUTS: [(&str, &str); 8] = [
 ];
 
 #[test]
-fn cuts_lines(rt: HostRuntime) -> Result<(), Fail> {
+fn cuts_lines(rt: HostRuntime) {
     for (text, want) in &CUTS {
         assert!(rt;
-            is_cut(rt.alloc(), text, Limits::STANDARD, want)?,
+            is_cut(rt.alloc(), text, Limits::STANDARD, want) == Ok(true),
             "{text:?}"
         );
     }
-    Ok(())
 }
 
 /// A terminal: it gives some bytes, says once that they end, and gives them again.
@@ -182,11 +180,10 @@ fn gives_one_line(alloc: Global, terminal: &mut Terminal) -> Result<bool, AllocE
 }
 
 #[test]
-fn ends_once(rt: HostRuntime) -> Result<(), Fail> {
+fn ends_once(rt: HostRuntime) {
     let mut terminal = Terminal { reads: 0 };
-    assert!(rt; gives_one_line(rt.alloc(), &mut terminal)?);
+    assert!(rt; gives_one_line(rt.alloc(), &mut terminal) == Ok(true));
     assert_eq!(rt; terminal.reads, 2);
-    Ok(())
 }
 
 /// Whether the shelf's file gives a first line.
@@ -204,11 +201,10 @@ fn reads_first(alloc: Global, call: u64) -> Result<bool, LineFault> {
 }
 
 #[test]
-fn reads_no_further_than_a_line(rt: HostRuntime) -> Result<(), Fail> {
+fn reads_no_further_than_a_line(rt: HostRuntime) {
     // the open and two reads of seven bytes bring the eight bytes of the first line
-    assert!(rt; !reads_first(rt.alloc(), 3)?);
-    assert!(rt; reads_first(rt.alloc(), 4)?);
-    Ok(())
+    assert!(rt; reads_first(rt.alloc(), 3) == Ok(false));
+    assert!(rt; reads_first(rt.alloc(), 4) == Ok(true));
 }
 
 /// By reads of `step` bytes, with a fault at the call of this number: the line and its number that
@@ -266,12 +262,11 @@ fn stays_where_failed(
 }
 
 #[test]
-fn a_fault_of_the_shelf_leaves_the_line(rt: HostRuntime) -> Result<(), Fail> {
+fn a_fault_of_the_shelf_leaves_the_line(rt: HostRuntime) {
     for (step, call, line, number) in &FAULTS {
-        let stays = stays_where_failed(rt.alloc(), (*step).max(1), *call, line, *number)?;
-        assert!(rt; stays, "{step} {call}");
+        let stays = stays_where_failed(rt.alloc(), (*step).max(1), *call, line, *number);
+        assert!(rt; stays == Ok(true), "{step} {call}");
     }
-    Ok(())
 }
 
 /// Whether of a file whose second line is too long the first one stays, by reads of `step` bytes.
@@ -285,11 +280,10 @@ fn stays_where_long(alloc: Global, step: usize) -> Result<bool, LineFault>
 }
 
 #[test]
-fn a_long_line_leaves_the_one_before(rt: HostRuntime) -> Result<(), Fail> {
-    assert!(rt; stays_where_long(rt.alloc(), 1)?);
-    assert!(rt; stays_where_long(rt.alloc(), 4)?);
-    assert!(rt; stays_where_long(rt.alloc(), 4096)?);
-    Ok(())
+fn a_long_line_leaves_the_one_before(rt: HostRuntime) {
+    assert!(rt; stays_where_long(rt.alloc(), 1) == Ok(true));
+    assert!(rt; stays_where_long(rt.alloc(), 4) == Ok(true));
+    assert!(rt; stays_where_long(rt.alloc(), 4096) == Ok(true));
 }
 
 /// A text of so many lines, each the row; the last one lacks its LF.
@@ -351,23 +345,21 @@ fn cuts_rows(alloc: Global, size: usize, count: usize, step: usize) -> Result<bo
 }
 
 #[test]
-fn cuts_lines_across_blocks(rt: HostRuntime) -> Result<(), Fail> {
+fn cuts_lines_across_blocks(rt: HostRuntime) {
     // a block has 65,536 bytes: the third line goes on in the second one
-    assert!(rt; cuts_rows(rt.alloc(), 30000, 4, 1)?);
-    assert!(rt; cuts_rows(rt.alloc(), 30000, 4, 7)?);
-    assert!(rt; cuts_rows(rt.alloc(), 30000, 4, 65536)?);
+    assert!(rt; cuts_rows(rt.alloc(), 30000, 4, 1) == Ok(true));
+    assert!(rt; cuts_rows(rt.alloc(), 30000, 4, 7) == Ok(true));
+    assert!(rt; cuts_rows(rt.alloc(), 30000, 4, 65536) == Ok(true));
     // the last byte of a line, and its LF, at the end of a block
-    assert!(rt; cuts_rows(rt.alloc(), 65536, 3, 65536)?);
-    assert!(rt; cuts_rows(rt.alloc(), 65535, 3, 65536)?);
-    Ok(())
+    assert!(rt; cuts_rows(rt.alloc(), 65536, 3, 65536) == Ok(true));
+    assert!(rt; cuts_rows(rt.alloc(), 65535, 3, 65536) == Ok(true));
 }
 
 #[test]
-fn a_line_has_exactly_the_limit(rt: HostRuntime) -> Result<(), Fail> {
-    assert!(rt; cuts_rows(rt.alloc(), 70000, 2, 65536)?);
+fn a_line_has_exactly_the_limit(rt: HostRuntime) {
+    assert!(rt; cuts_rows(rt.alloc(), 70000, 2, 65536) == Ok(true));
     let longer = cuts_rows(rt.alloc(), 70001, 2, 65536);
     assert!(rt; longer == Err(LineFault::Long));
-    Ok(())
 }
 
 /// Lines, their first fields, and what follows them.
@@ -419,15 +411,14 @@ fn is_cut_within(
 }
 
 #[test]
-fn refuses_long_lines(rt: HostRuntime) -> Result<(), Fail> {
+fn refuses_long_lines(rt: HostRuntime) {
     // the last byte of an empty line is its LF, and that of another line is before its LF
     for (text, line, file, want) in &LONG_LINES {
         assert!(rt;
-            is_cut_within(rt.alloc(), text, *line, *file, want)?,
+            is_cut_within(rt.alloc(), text, *line, *file, want) == Ok(true),
             "{text:?}"
         );
     }
-    Ok(())
 }
 
 /// Whether the shelf's file is read to its end.
@@ -460,13 +451,15 @@ fn is_sure(alloc: Global) -> Result<bool, LineFault> {
 }
 
 #[test]
-fn shelves_fail_where_told(rt: HostRuntime) -> Result<(), Fail> {
+fn shelves_fail_where_told(rt: HostRuntime) {
     // the open, two reads of seven bytes, and the read of no bytes
     for call in 1..6 {
-        assert!(rt; reads_so(rt.alloc(), call, 4 < call)?, "at call {call}");
+        assert!(rt;
+            reads_so(rt.alloc(), call, 4 < call) == Ok(true),
+            "at call {call}"
+        );
     }
-    assert!(rt; is_sure(rt.alloc())?);
-    Ok(())
+    assert!(rt; is_sure(rt.alloc()) == Ok(true));
 }
 
 /// Whether the bytes are sent so, and the sink has taken these then.
@@ -484,9 +477,8 @@ fn takes_the_rest(alloc: Global) -> Result<bool, AllocError> {
 }
 
 #[test]
-fn writes_bytes(rt: HostRuntime) -> Result<(), Fail> {
-    assert!(rt; takes_the_rest(rt.alloc())?);
-    Ok(())
+fn writes_bytes(rt: HostRuntime) {
+    assert!(rt; takes_the_rest(rt.alloc()) == Ok(true));
 }
 
 /// Whether the text `=` and the number is this one, and is cut to `=` again.
@@ -500,11 +492,10 @@ fn is_written(alloc: Global, number: u64, want: &str) -> Result<bool, AllocError
 }
 
 #[test]
-fn writes_numbers(rt: HostRuntime) -> Result<(), Fail> {
-    assert!(rt; is_written(rt.alloc(), 0, "=0")?);
-    assert!(rt; is_written(rt.alloc(), 70, "=70")?);
-    assert!(rt; is_written(rt.alloc(), u64::MAX, "=18446744073709551615")?);
-    Ok(())
+fn writes_numbers(rt: HostRuntime) {
+    assert!(rt; is_written(rt.alloc(), 0, "=0") == Ok(true));
+    assert!(rt; is_written(rt.alloc(), 70, "=70") == Ok(true));
+    assert!(rt; is_written(rt.alloc(), u64::MAX, "=18446744073709551615") == Ok(true));
 }
 
 /// How many bytes of the text a sink counts.
@@ -515,9 +506,8 @@ fn counted() -> Result<u64, Failed> {
 }
 
 #[test]
-fn counts_bytes(rt: HostRuntime) -> Result<(), Fail> {
-    assert_eq!(rt; counted()?, 14);
-    Ok(())
+fn counts_bytes(rt: HostRuntime) {
+    assert!(rt; counted() == Ok(14));
 }
 
 /// Texts, and the numbers that they spell.

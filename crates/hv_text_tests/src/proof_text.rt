@@ -9,7 +9,6 @@ use hv_proof_text::{LineError, LineReader, read_line, write_line, write_proof};
 use hv_sets::{Clauses, Literal};
 use hv_task::Task;
 use std::alloc::{AllocError, Global};
-use std::test::Fail;
 
 /// A line of each form, and one of each word.
 static LINES: [&str; 48] = [
@@ -145,13 +144,12 @@ fn is_rewritten(alloc: Global, reader: &mut LineReader, text: &str) -> Result<bo
 }
 
 #[test]
-fn reads_and_writes_each_form(rt: HostRuntime) -> Result<(), Fail> {
+fn reads_and_writes_each_form(rt: HostRuntime) {
     let mut reader = LineReader::new(rt.alloc());
     for text in &LINES {
         let rewritten = is_rewritten(rt.alloc(), &mut reader, text);
         assert!(rt; rewritten == Ok(true), "{text}");
     }
-    Ok(())
 }
 
 /// Whether the text is refused as no line.
@@ -319,9 +317,8 @@ fn lines_are_written(alloc: Global) -> Result<bool, AllocError> {
 }
 
 #[test]
-fn writes_lines_in_order(rt: HostRuntime) -> Result<(), Fail> {
-    assert!(rt; lines_are_written(rt.alloc())?);
-    Ok(())
+fn writes_lines_in_order(rt: HostRuntime) {
+    assert!(rt; lines_are_written(rt.alloc()) == Ok(true));
 }
 
 /// Whether a draft of this task is written as its first lines.
@@ -338,7 +335,6 @@ fn empty_draft_is_written(alloc: Global) -> Result<bool, AllocError> {
 }
 
 #[test]
-fn writes_the_lines_that_begin_a_draft(rt: HostRuntime) -> Result<(), Fail> {
-    assert!(rt; empty_draft_is_written(rt.alloc())?);
-    Ok(())
+fn writes_the_lines_that_begin_a_draft(rt: HostRuntime) {
+    assert!(rt; empty_draft_is_written(rt.alloc()) == Ok(true));
 }
